@@ -1,0 +1,17 @@
+// A row of document 01's table of refusals, as a host is handed it.
+
+#[repr(C)]
+pub struct Refusal {
+    // The refusal's number; 0 is none.
+    pub no: u32,
+    // The number beside the place.
+    pub value: u32,
+    pub place: usize,
+}
+
+// A number is a constant here from the layer on that answers it, whose contract ties it to the definition.
+impl Refusal {
+    pub const NONE: u32 = 0;
+
+    pub const NOT_UTF8: u32 = 3;
+}
