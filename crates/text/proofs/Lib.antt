@@ -1,0 +1,4 @@
+pub mod Chars
+pub mod Laws
+pub mod Declared
+pub mod Examples
