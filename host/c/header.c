@@ -1,0 +1,32 @@
+/* Calls each function as include/zaghdurem.h declares it and prints what it answers; header.expected has what must come. */
+#include <stdio.h>
+#include <string.h>
+
+#include "zaghdurem.h"
+
+static void text(const char *bytes, size_t len) {
+    ZaghduremRefusal r = zaghdurem_check_text((const uint8_t *)bytes, len);
+    printf("text %u %zu %u\n", (unsigned)r.no, r.place, (unsigned)r.value);
+}
+
+static void place(const char *bytes, size_t offset) {
+    ZaghduremPosition p = zaghdurem_offset_to_position((const uint8_t *)bytes, strlen(bytes), offset);
+    printf("place %zu:%zu\n", p.line, p.column);
+}
+
+int main(void) {
+    static const uint32_t table[7] = {1, 2, 3, 4, 5, 6, 7};
+    ZaghduremLimits l = zaghdurem_limits();
+    printf("limits %u %u %u\n", (unsigned)l.source_bytes, (unsigned)l.records, (unsigned)l.depth);
+    printf("widths %u %u %u %u %u %u %u %u\n", (unsigned)l.token_words, (unsigned)l.line_words,
+           (unsigned)l.expression_words, (unsigned)l.type_words, (unsigned)l.name_words, (unsigned)l.node_words,
+           (unsigned)l.error_words, (unsigned)l.work_words);
+    text("", 0);
+    text("gr\xC3\xBCn", 5);
+    text("ab\xC0\xAF", 4);
+    place("a\nb\xC3\xBC" "c", 5);
+    place("a\nb", 99);
+    printf("word %u %u %u\n", (unsigned)zaghdurem_word(table, 7, 3, 2, 0), (unsigned)zaghdurem_word(table, 7, 3, 3, 1),
+           (unsigned)zaghdurem_word(table, 7, 3, 0, 0));
+    return 0;
+}

@@ -1,0 +1,102 @@
+//! Compares the library with the Rust: `compare [quick] [--seed N] [--count N]`.
+
+use std::process::ExitCode;
+use zaghdurem_host::generate::Shape;
+use zaghdurem_host::scale::Scale;
+use zaghdurem_host::tables;
+use zaghdurem_host::tally::Tally;
+use zaghdurem_host::text::{shrink_disagreement, Tallies, PARTS};
+
+const USAGE: &str = "usage: compare [quick] [--seed N] [--count N]";
+
+fn main() -> ExitCode {
+    let scale = match scale_of(std::env::args().skip(1)) {
+        Ok(scale) => scale,
+        Err(message) => {
+            eprintln!("{message}\n{USAGE}");
+            return ExitCode::from(2);
+        }
+    };
+    println!(
+        "seed {}, {} inputs for each random part",
+        scale.seed, scale.count
+    );
+    let (total, reference) = compare_all(&scale);
+    println!("total: {total}");
+    if total.disagreements + reference.disagreements == 0 {
+        return ExitCode::SUCCESS;
+    }
+    if let Some(found) = total.smallest {
+        println!("the smallest disagreement of all:\n{found}");
+    }
+    ExitCode::FAILURE
+}
+
+/// Runs every part of the comparison. The first tally is the library's, the second that
+/// of the reference for positions, which is no answer of the library and stays out of the total.
+fn compare_all(scale: &Scale) -> (Tally, Tally) {
+    let (mut total, mut reference) = (Tally::default(), Tally::default());
+    total.add(report("limits", tables::compare_limits(scale)));
+    total.add(report("words", tables::compare_words(scale)));
+    for (name, compare) in PARTS {
+        let mut tallies = Tallies::default();
+        compare(scale, &mut tallies);
+        shrink_disagreement(&mut tallies.library);
+        total.add(report(name, tallies.library));
+        reference.add(tallies.reference);
+        print_files(&tallies.files);
+    }
+    let reference = report("reference for positions against the Rust, apart", reference);
+    (total, reference)
+}
+
+/// Prints a part's line, and its smallest disagreement if there is one.
+fn report(name: &str, tally: Tally) -> Tally {
+    println!("{name}: {tally}");
+    if let Some(found) = &tally.smallest {
+        println!("{found}");
+    }
+    tally
+}
+
+/// Prints how many files of each family were made, if any were.
+fn print_files(made: &[u64]) {
+    if made.iter().all(|&count| count == 0) {
+        return;
+    }
+    let shown: Vec<String> = Shape::ALL
+        .iter()
+        .zip(made)
+        .map(|(shape, count)| format!("{count} {shape:?}"))
+        .collect();
+    println!("  files made: {}", shown.join(", "));
+}
+
+/// What the arguments ask for.
+fn scale_of(mut arguments: impl Iterator<Item = String>) -> Result<Scale, String> {
+    let (mut quick, mut seed, mut count) = (false, 1, None);
+    while let Some(argument) = arguments.next() {
+        match argument.as_str() {
+            "quick" => quick = true,
+            "--seed" => seed = number(&argument, arguments.next())?,
+            "--count" => count = Some(number(&argument, arguments.next())? as usize),
+            other => return Err(format!("not understood: {other}")),
+        }
+    }
+    let usual = if quick {
+        Scale::QUICK_COUNT
+    } else {
+        Scale::FULL_COUNT
+    };
+    Ok(Scale {
+        quick,
+        seed,
+        count: count.unwrap_or(usual),
+    })
+}
+
+fn number(option: &str, value: Option<String>) -> Result<u64, String> {
+    let text = value.ok_or_else(|| format!("{option} needs a number"))?;
+    text.parse()
+        .map_err(|_| format!("{option} needs a number, not {text}"))
+}

@@ -1,0 +1,56 @@
+//! The C functions of the library, as its header declares them.
+//! A slice passes as a pointer and then its length in elements.
+
+/// A row of the refusal table. `no` is 0 if nothing was refused.
+#[repr(C)]
+#[derive(Clone, Copy, Debug, PartialEq, Eq)]
+pub struct Refusal {
+    pub no: u32,
+    pub value: u32,
+    pub place: usize,
+}
+
+/// A place in a text; both numbers begin at 1.
+#[repr(C)]
+#[derive(Clone, Copy, Debug, PartialEq, Eq)]
+pub struct Position {
+    pub line: usize,
+    pub column: usize,
+}
+
+/// The limits of a source, and the words of one record of each table.
+#[repr(C)]
+#[derive(Clone, Copy, Debug, PartialEq, Eq)]
+pub struct Limits {
+    pub source_bytes: u32,
+    pub records: u32,
+    pub depth: u32,
+    pub token_words: u32,
+    pub line_words: u32,
+    pub expression_words: u32,
+    pub type_words: u32,
+    pub name_words: u32,
+    pub node_words: u32,
+    pub error_words: u32,
+    pub work_words: u32,
+}
+
+extern "C" {
+    pub fn zaghdurem_check_text(source: *const u8, source_len: usize) -> Refusal;
+
+    pub fn zaghdurem_offset_to_position(
+        source: *const u8,
+        source_len: usize,
+        offset: usize,
+    ) -> Position;
+
+    pub fn zaghdurem_limits() -> Limits;
+
+    pub fn zaghdurem_word(
+        table: *const u32,
+        table_len: usize,
+        width: u32,
+        number: u32,
+        word: u32,
+    ) -> u32;
+}

@@ -1,0 +1,96 @@
+//! The library for a host: safe calls on slices and numbers.
+
+use crate::ffi;
+pub use crate::ffi::{Limits, Position, Refusal};
+use std::fmt;
+
+impl fmt::Display for Refusal {
+    fn fmt(&self, out: &mut fmt::Formatter<'_>) -> fmt::Result {
+        write!(out, "refused {} at byte {}", self.no, self.place)?;
+        if self.value != 0 {
+            write!(out, ", with {}", self.value)?;
+        }
+        Ok(())
+    }
+}
+
+impl std::error::Error for Refusal {}
+
+/// Whether the bytes are UTF-8; if not, refusal 3 with its place.
+pub fn check_text(source: &[u8]) -> Result<(), Refusal> {
+    let row = check_text_row(source);
+    if row.no == 0 {
+        Ok(())
+    } else {
+        Err(row)
+    }
+}
+
+/// The row that `check_text` rests on, as the library gives it.
+pub(crate) fn check_text_row(source: &[u8]) -> Refusal {
+    // SAFETY: pointer and length are those of one slice, which is only read.
+    unsafe { ffi::zaghdurem_check_text(source.as_ptr(), source.len()) }
+}
+
+/// Line and column of a byte offset, in any bytes. An offset past the end counts as the end.
+pub fn offset_to_position(source: &[u8], offset: usize) -> Position {
+    // SAFETY: pointer and length are those of one slice, which is only read.
+    unsafe { ffi::zaghdurem_offset_to_position(source.as_ptr(), source.len(), offset) }
+}
+
+/// The limits of a source and the words per record of each table.
+pub fn limits() -> Limits {
+    // SAFETY: the call takes nothing and answers with plain numbers.
+    unsafe { ffi::zaghdurem_limits() }
+}
+
+/// Word `word` (from 0) of record `number` (from 1) of a table whose records
+/// have `width` words; 0 where there is none.
+pub fn word(table: &[u32], width: u32, number: u32, word: u32) -> u32 {
+    // SAFETY: pointer and length are those of one slice, which is only read.
+    unsafe { ffi::zaghdurem_word(table.as_ptr(), table.len(), width, number, word) }
+}
+
+#[cfg(test)]
+mod tests {
+    use super::{check_text, limits, offset_to_position, word, Position, Refusal};
+
+    #[test]
+    fn text_that_is_no_utf8_is_refused_at_its_first_bad_byte() {
+        assert_eq!(check_text(b""), Ok(()));
+        assert_eq!(check_text("gr\u{fc}n".as_bytes()), Ok(()));
+        let refusal = check_text(b"ab\xe2\x82").unwrap_err();
+        assert_eq!((refusal.no, refusal.value, refusal.place), (3, 0, 2));
+        assert_eq!(refusal.to_string(), "refused 3 at byte 2");
+    }
+
+    #[test]
+    fn a_refusal_shows_its_value_if_it_has_one() {
+        let refusal = Refusal {
+            no: 7,
+            value: 3,
+            place: 11,
+        };
+        assert_eq!(refusal.to_string(), "refused 7 at byte 11, with 3");
+    }
+
+    #[test]
+    fn places_are_lines_and_columns() {
+        assert_eq!(offset_to_position(b"", 0), Position { line: 1, column: 1 });
+        assert_eq!(
+            offset_to_position(b"ab\ncd", 4),
+            Position { line: 2, column: 2 }
+        );
+        assert_eq!(
+            offset_to_position(b"ab\ncd", usize::MAX),
+            Position { line: 2, column: 3 }
+        );
+    }
+
+    #[test]
+    fn words_and_limits_are_told() {
+        assert_eq!(word(&[1, 2, 3, 4], 2, 2, 1), 4);
+        assert_eq!(word(&[1, 2, 3, 4], 2, 3, 0), 0);
+        assert_eq!(limits().records, 1024);
+    }
+}
