@@ -6,14 +6,14 @@ use crate::stored::Stored;
 use records::refusals::Refusal;
 
 // How many texts were compared, how many places of tokens agree, and how many cases are bad.
-pub struct Tally {
+pub(crate) struct Tally {
     pub texts: u64,
     pub places: u64,
     pub bad: u64,
 }
 
 // Both together.
-pub fn add(a: Tally, b: Tally) -> Tally
+pub(crate) fn add(a: Tally, b: Tally) -> Tally
     requires { ⌜ (a .texts < 2 ^ 62) × (a .places < 2 ^ 62) × (a .bad < 2 ^ 62) × (b .texts ≤ 1) × (b .places < 2 ^ 32) × (b .bad ≤ 1) ⌝ }
     ensures { λ r. ⌜ (r .texts ≡ a .texts + b .texts) × (r .places ≡ a .places + b .places) × (r .bad ≡ a .bad + b .bad) ⌝ }
 {
@@ -25,7 +25,7 @@ pub fn add(a: Tally, b: Tally) -> Tally
 }
 
 // A case of which nothing can be compared.
-pub fn bad() -> Tally
+pub(crate) fn bad() -> Tally
     ensures { λ r. ⌜ (r .texts ≤ 1) × (r .places < 2 ^ 32) × (r .bad ≤ 1) ⌝ }
 {
     Tally {
@@ -75,7 +75,7 @@ fn places_agree(source: &[u8], bytes: &[u8], a: Stored) -> u64
 }
 
 // Compares a case.
-pub fn compare(source: &[u8], bytes: &[u8]) -> Tally
+pub(crate) fn compare(source: &[u8], bytes: &[u8]) -> Tally
     ensures { λ r. ⌜ (r .texts ≤ 1) × (r .places < 2 ^ 32) × (r .bad ≤ 1) ⌝ }
 {
     if !stored::whole(source, bytes) {

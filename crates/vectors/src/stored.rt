@@ -11,7 +11,7 @@ use records::TokenRecord;
 use records::TypeRecord;
 
 // The refusal of a source that is too long.
-pub const TOO_LONG: u32 = 2;
+pub(crate) const TOO_LONG: u32 = 2;
 
 // Which word holds what, and how many there are before the records. The counts follow each other.
 const NO: usize = 0;
@@ -25,13 +25,13 @@ const COUNTS: usize = 3;
 const HEAD: usize = 10;
 
 // Whether a file was there, and how many bytes of it were read.
-pub struct Loaded {
+pub(crate) struct Loaded {
     pub found: bool,
     pub len: usize,
 }
 
 // A stored answer, with the word at which the places of the tokens begin.
-pub struct Stored {
+pub(crate) struct Stored {
     pub no: u32,
     pub value: u32,
     pub place: usize,
@@ -46,7 +46,7 @@ fn digit(n: u16) -> u8
 }
 
 // Reads the file of a case in the folder of this letter.
-pub fn load(folder: u8, number: u16, buf: &mut [u8]) -> Loaded
+pub(crate) fn load(folder: u8, number: u16, buf: &mut [u8]) -> Loaded
     requires { ⌜ number < 1000 ⌝ }
     ensures { λ r. ⌜ Counts (r .len) (now (buf .exit)) ⌝ }
 {
@@ -82,7 +82,7 @@ fn wide(b: u8) -> u32
 }
 
 // The word of this number, counted from 0; 0 past the end.
-pub fn word(bytes: &[u8], k: usize) -> u32 {
+pub(crate) fn word(bytes: &[u8], k: usize) -> u32 {
     if bytes.len() / 4 <= k {
         return 0;
     }
@@ -94,7 +94,7 @@ pub fn word(bytes: &[u8], k: usize) -> u32 {
 }
 
 // The same as a usize.
-pub fn number(bytes: &[u8], k: usize) -> usize
+pub(crate) fn number(bytes: &[u8], k: usize) -> usize
     ensures { λ r. ⌜ r < 2 ^ 32 ⌝ }
 {
     word(bytes, k) as usize
@@ -114,7 +114,7 @@ fn record_words(bytes: &[u8]) -> usize
 }
 
 // The answer that the words hold.
-pub fn answer(bytes: &[u8]) -> Stored
+pub(crate) fn answer(bytes: &[u8]) -> Stored
     ensures { λ r. ⌜ (r .tokens < 2 ^ 32) × (r .places < 2 ^ 40) ⌝ }
 {
     Stored {
@@ -127,7 +127,7 @@ pub fn answer(bytes: &[u8]) -> Stored
 }
 
 // Whether the answer has as many words as its counts tell, and the source reaches the refused place.
-pub fn whole(source: &[u8], bytes: &[u8]) -> bool {
+pub(crate) fn whole(source: &[u8], bytes: &[u8]) -> bool {
     let words = record_words(bytes) + 2 * number(bytes, COUNTS);
     if bytes.len() != 4 * (HEAD + words) {
         return false;
@@ -136,7 +136,7 @@ pub fn whole(source: &[u8], bytes: &[u8]) -> bool {
 }
 
 // Where the token of this number, counted from 0, starts.
-pub fn token_start(bytes: &[u8], i: usize) -> usize
+pub(crate) fn token_start(bytes: &[u8], i: usize) -> usize
     requires { ⌜ i < 2 ^ 32 ⌝ }
 {
     number(
