@@ -57,6 +57,22 @@ ZaghduremPosition zaghdurem_offset_to_position(const uint8_t *source, size_t sou
  * `wordAt`). 0 for the number 0, a number past 1,024, a place past the record, and words past the table's end. */
 uint32_t zaghdurem_word(const uint32_t *table, size_t table_len, uint32_t width, uint32_t number, uint32_t place);
 
+/* What lexing a source gives: no refusal and so many tokens, or a refusal, its place and the number beside it, and 0
+ * tokens. */
+typedef struct {
+    uint32_t no;
+    uint32_t value;
+    size_t place;
+    uint32_t tokens;
+} ZaghduremLexed;
+
+/* Lexes a source into a lent table of tokens, three words each: kind, start, length (definitions `lexAll` and `leaves`).
+ * Refusals, in the order they are looked for: 1, the table has fewer words than 1,024 records, and no word is changed; 2,
+ * the source has over 32,768 bytes; 3, it is not UTF-8; then, whichever is met first from the left, 4 at the byte where no
+ * token matches or 5 at the start of a 1,025th token. Refusals 2 to 5 set the first 1,024 records to zero; otherwise unused
+ * records are zero. Words past the first 1,024 records never change. */
+ZaghduremLexed zaghdurem_lex_all(const uint8_t *source, size_t source_len, uint32_t *tokens, size_t tokens_len);
+
 #ifdef __cplusplus
 }
 #endif

@@ -14,6 +14,14 @@ static void place(const char *bytes, size_t offset) {
     printf("place %zu:%zu\n", p.line, p.column);
 }
 
+static void lex(const char *bytes) {
+    static uint32_t t[3072];
+    ZaghduremLexed l = zaghdurem_lex_all((const uint8_t *)bytes, strlen(bytes), t, 3072);
+    printf("lexed %u %zu %u\n", (unsigned)l.no, l.place, (unsigned)l.tokens);
+    printf("records %u %u %u, %u %u %u\n", (unsigned)t[0], (unsigned)t[1], (unsigned)t[2], (unsigned)t[3], (unsigned)t[4],
+           (unsigned)t[5]);
+}
+
 int main(void) {
     static const uint32_t table[7] = {1, 2, 3, 4, 5, 6, 7};
     ZaghduremLimits l = zaghdurem_limits();
@@ -26,6 +34,8 @@ int main(void) {
     text("ab\xC0\xAF", 4);
     place("a\nb\xC3\xBC" "c", 5);
     place("a\nb", 99);
+    lex("main := unit");
+    lex("a->b");
     printf("word %u %u %u\n", (unsigned)zaghdurem_word(table, 7, 3, 2, 0), (unsigned)zaghdurem_word(table, 7, 3, 3, 1),
            (unsigned)zaghdurem_word(table, 7, 3, 0, 0));
     return 0;

@@ -18,6 +18,16 @@ pub struct Position {
     pub column: usize,
 }
 
+/// A row of the refusal table, with the number of tokens. `no` is 0 if nothing was refused.
+#[repr(C)]
+#[derive(Clone, Copy, Debug, PartialEq, Eq)]
+pub struct Lexed {
+    pub no: u32,
+    pub value: u32,
+    pub place: usize,
+    pub tokens: u32,
+}
+
 /// The limits of a source, and the words of one record of each table.
 #[repr(C)]
 #[derive(Clone, Copy, Debug, PartialEq, Eq)]
@@ -43,6 +53,13 @@ extern "C" {
         source_len: usize,
         offset: usize,
     ) -> Position;
+
+    pub fn zaghdurem_lex_all(
+        source: *const u8,
+        source_len: usize,
+        tokens: *mut u32,
+        tokens_len: usize,
+    ) -> Lexed;
 
     pub fn zaghdurem_limits() -> Limits;
 

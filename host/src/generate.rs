@@ -18,12 +18,14 @@ mod soups;
 mod tests;
 mod vocabulary;
 
+pub(crate) use damage::ILL_FORMED;
 pub use damage::{damage_bytes, damaged, misplaced_token};
 pub use depths::depth_limit;
 pub use examples::example;
 pub use files::{jet_edges, literal_edges, sound, type_edges, unsound};
 pub use limits::{byte_limit, name_series, token_limit};
 pub use soups::{byte_soup, token_soup};
+pub(crate) use vocabulary::{KEYWORDS, PUNCTUATION};
 
 use crate::random::Random;
 

@@ -6,6 +6,7 @@ pub mod depth;
 pub mod expected;
 mod ffi;
 pub mod generate;
+pub mod lexer;
 pub mod library;
 pub mod random;
 pub mod scale;

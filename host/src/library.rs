@@ -1,7 +1,7 @@
 //! The library for a host: safe calls on slices and numbers.
 
 use crate::ffi;
-pub use crate::ffi::{Limits, Position, Refusal};
+pub use crate::ffi::{Lexed, Limits, Position, Refusal};
 use std::fmt;
 
 impl fmt::Display for Refusal {
@@ -38,6 +38,29 @@ pub fn offset_to_position(source: &[u8], offset: usize) -> Position {
     unsafe { ffi::zaghdurem_offset_to_position(source.as_ptr(), source.len(), offset) }
 }
 
+/// Writes the source's tokens into a lent table as records of kind, start and length, and gives their number; the
+/// first 1,024 records not used become zeros, all of them on refusals 2 to 5. Refusal 1 leaves the table as it is.
+pub fn lex_all(source: &[u8], tokens: &mut [u32]) -> Result<u32, Refusal> {
+    let row = lex_all_row(source, tokens);
+    if row.no == 0 {
+        Ok(row.tokens)
+    } else {
+        Err(Refusal {
+            no: row.no,
+            value: row.value,
+            place: row.place,
+        })
+    }
+}
+
+/// The row that `lex_all` rests on, as the library gives it.
+pub(crate) fn lex_all_row(source: &[u8], tokens: &mut [u32]) -> Lexed {
+    let (table, words) = (tokens.as_mut_ptr(), tokens.len());
+    // SAFETY: each pointer and length are those of one slice; the source is only read, and
+    // the table is this call's alone.
+    unsafe { ffi::zaghdurem_lex_all(source.as_ptr(), source.len(), table, words) }
+}
+
 /// The limits of a source and the words per record of each table.
 pub fn limits() -> Limits {
     // SAFETY: the call takes nothing and answers with plain numbers.
@@ -53,7 +76,7 @@ pub fn word(table: &[u32], width: u32, number: u32, word: u32) -> u32 {
 
 #[cfg(test)]
 mod tests {
-    use super::{check_text, limits, offset_to_position, word, Position, Refusal};
+    use super::{check_text, lex_all, limits, offset_to_position, word, Position, Refusal};
 
     #[test]
     fn text_that_is_no_utf8_is_refused_at_its_first_bad_byte() {
@@ -85,6 +108,26 @@ mod tests {
             offset_to_position(b"ab\ncd", usize::MAX),
             Position { line: 2, column: 3 }
         );
+    }
+
+    #[test]
+    fn tokens_are_written_into_the_lent_table() {
+        let mut table = [7; 3_073];
+        assert_eq!(lex_all(b"a :=", &mut table), Ok(2));
+        assert_eq!(table[..7], [34, 0, 1, 1, 2, 2, 0]);
+        assert_eq!(table[3_071..], [0, 7]);
+        let refusal = lex_all(b"a =", &mut table).unwrap_err();
+        assert_eq!((refusal.no, refusal.value, refusal.place), (4, 0, 2));
+        assert_eq!(table[..3], [0; 3]);
+    }
+
+    #[test]
+    fn a_table_that_is_too_short_is_refused_and_stays() {
+        let mut table = [7; 3_071];
+        let refusal = lex_all(b"a =", &mut table).unwrap_err();
+        assert_eq!((refusal.no, refusal.value, refusal.place), (1, 0, 0));
+        assert_eq!(table, [7; 3_071]);
+        assert_eq!(lex_all(b"", &mut []).unwrap_err().no, 1);
     }
 
     #[test]

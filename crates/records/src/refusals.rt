@@ -13,5 +13,13 @@ pub struct Refusal {
 impl Refusal {
     pub const NONE: u32 = 0;
 
+    pub const SHORT_TABLE: u32 = 1;
+
+    pub const LONG_SOURCE: u32 = 2;
+
     pub const NOT_UTF8: u32 = 3;
+
+    pub const NO_TOKEN: u32 = 4;
+
+    pub const TOO_MANY_TOKENS: u32 = 5;
 }

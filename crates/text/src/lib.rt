@@ -36,8 +36,8 @@ impl TextAnswer {
     }
 }
 
-// The byte at i; 0 past the end, which is in no range of a character's later bytes.
-fn byte_at(s: &[u8], i: usize) -> u8
+// The byte at i; 0 past the end, which is in no range of a character's later bytes and begins no token.
+pub fn byte_at(s: &[u8], i: usize) -> u8
     ensures { λ r. ⌜ r ≡ getD (now (s .entry)) i 0 ⌝ }
 {
     if i < s.len() { s[i] } else { 0 }

@@ -1,8 +1,11 @@
-// Compares what the crates give for a stored source with the stored answer: refusal 3, and the place of every token.
+// Compares what the crates give for a stored source with the stored answer: refusals 2 to 5, every token with the words
+// behind the last, and the place of every token.
 ghost use mathlib.Core.Path.{_≡_};
 ghost use Prim.Native.Nat.{_+_, _<_, _≤_, _^_};
 use crate::stored;
 use crate::stored::Stored;
+use records::TokenRecord;
+use records::limits::Limits;
 use records::refusals::Refusal;
 
 // How many texts were compared, how many places of tokens agree, and how many cases are bad.
@@ -59,6 +62,43 @@ fn place_agrees(source: &[u8], bytes: &[u8], a: Stored, i: usize) -> bool
     (p.line == stored::number(bytes, at)) & (p.column == stored::number(bytes, at + 1))
 }
 
+// Words of a token table.
+const TOKEN_TABLE: usize = Limits::RECORDS as usize * TokenRecord::WORDS as usize;
+
+// Whether a table holds the stored tokens' words, so many, and zeros behind them.
+fn words_agree(tokens: &[u32], bytes: &[u8], words: usize) -> bool
+    requires { ⌜ words < 2 ^ 40 ⌝ }
+{
+    let mut agree = true;
+    let mut i: usize = 0;
+    while i < tokens.len() {
+        agree = agree & (tokens[i] == stored::token_word(bytes, i, words));
+        i += 1;
+    }
+    agree
+}
+
+// Whether the lexer gives the stored row of refusals 2 to 5, or lexes the source, into the stored tokens where they are
+// stored.
+fn tokens_agree(source: &[u8], bytes: &[u8], a: Stored) -> bool
+    requires { ⌜ a .tokens < 2 ^ 32 ⌝ }
+{
+    let mut tokens = [0u32; TOKEN_TABLE];
+    let answer = lex::lex_all(source, &mut tokens);
+    let row = answer.row();
+    if (a.no != Refusal::NONE) & (a.no <= Refusal::TOO_MANY_TOKENS) {
+        return (row.no == a.no) & (row.value == a.value) & (row.place == a.place);
+    }
+    if a.no != Refusal::NONE {
+        return row.no == Refusal::NONE;
+    }
+    let count = answer.count() as usize;
+    let stored = a.tokens;
+    (row.no == Refusal::NONE)
+        & (count == stored)
+        & words_agree(&tokens, bytes, TokenRecord::WORDS as usize * stored)
+}
+
 // How many places of tokens agree.
 fn places_agree(source: &[u8], bytes: &[u8], a: Stored) -> u64
     requires { ⌜ (a .tokens < 2 ^ 32) × (a .places < 2 ^ 40) ⌝ }
@@ -83,8 +123,10 @@ pub(crate) fn compare(source: &[u8], bytes: &[u8]) -> Tally
     }
     let a = stored::answer(bytes);
     let agree = places_agree(source, bytes, a);
-    let with_text = a.no != stored::TOO_LONG;
-    let good = (agree == a.tokens as u64) & (!with_text | text_agrees(source, a));
+    let with_text = a.no != Refusal::LONG_SOURCE;
+    let good = (agree == a.tokens as u64)
+        & (!with_text | text_agrees(source, a))
+        & tokens_agree(source, bytes, a);
     Tally {
         texts: one_if(with_text),
         places: agree,

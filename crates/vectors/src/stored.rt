@@ -10,9 +10,6 @@ use records::NodeRecord;
 use records::TokenRecord;
 use records::TypeRecord;
 
-// The refusal of a source that is too long.
-pub(crate) const TOO_LONG: u32 = 2;
-
 // Which word holds what, and how many there are before the records. The counts follow each other.
 const NO: usize = 0;
 
@@ -143,4 +140,11 @@ pub(crate) fn token_start(bytes: &[u8], i: usize) -> usize
         bytes,
         HEAD + TokenRecord::WORDS as usize * i + TokenRecord::START as usize,
     )
+}
+
+// Word i of the token table, of which so many are stored; 0 behind them.
+pub(crate) fn token_word(bytes: &[u8], i: usize, words: usize) -> u32
+    requires { ⌜ i < 2 ^ 62 ⌝ }
+{
+    if i < words { word(bytes, HEAD + i) } else { 0 }
 }

@@ -1,10 +1,12 @@
 // The library as a host calls it through C: thin wrappers, each with the contract of what it wraps and nothing asked of the
 // caller. include/zaghdurem.h declares them.
 ghost use mathlib.Core.Path.{_≡_};
+ghost use Rattle.lex.specs.Tokens.{lexAll, leaves};
 ghost use Rattle.records.specs.Limits.{limits};
 ghost use Rattle.tables.specs.Tables.{wordAt};
 ghost use Rattle.text.specs.Check.{checkText, rowOfText};
 ghost use Rattle.text.specs.Place.{placeOf};
+ghost use Rattle.zaghdurem.specs.Rows.{lexedRow};
 use records::limits::Limits;
 use records::refusals::Refusal;
 use text::Position;
@@ -40,4 +42,29 @@ pub extern "C" fn zaghdurem_word(table: &[u32], width: u32, number: u32, place: 
     ensures { λ r. ⌜ r ≡ wordAt width (now (table .entry)) number place ⌝ }
 {
     tables::word(table, width, number, place)
+}
+
+// A row of the table of refusals, and how many tokens there are.
+#[repr(C)]
+pub struct LexedRow {
+    pub no: u32,
+    pub value: u32,
+    pub place: usize,
+    pub tokens: u32,
+}
+
+// Lexes a source into a lent table of tokens.
+#[no_mangle]
+pub extern "C" fn zaghdurem_lex_all(source: &[u8], tokens: &mut [u32]) -> LexedRow
+    ensures answer { λ r. ⌜ r ≡ lexedRow (lexAll (now (source .entry)) (now (tokens .entry))) ⌝ }
+    ensures table { λ _. ⌜ now (tokens .exit) ≡ leaves (lexAll (now (source .entry)) (now (tokens .entry))) (now (source .entry)) (now (tokens .entry)) ⌝ }
+{
+    let answer = lex::lex_all(source, tokens);
+    let row = answer.row();
+    LexedRow {
+        no: row.no,
+        value: row.value,
+        place: row.place,
+        tokens: answer.count(),
+    }
 }

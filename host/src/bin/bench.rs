@@ -3,6 +3,7 @@
 use std::hint::black_box;
 use std::time::{Duration, Instant};
 use zaghdurem_host::library;
+use zaghdurem_host::tables::RULES;
 
 /// How often each measurement is taken; the median counts.
 const RUNS: usize = 21;
@@ -15,6 +16,30 @@ const SIZES: [usize; 3] = [1 << 10, 8 << 10, 32 << 10];
 const ASCII: &str =
     "main := pair (comp a iden) -- a line of a program\na := take drop unit : 1 -> 2^8\n";
 const MIXED: &str = "main := unit -- gr\u{fc}n \u{20ac} \u{65e5}\u{672c}\u{8a9e} \u{1f980}\n";
+
+/// The words of a token table.
+const TABLE: usize = (RULES.records * RULES.token_words) as usize;
+
+/// A line with hardly any white space: two bytes of three begin a token.
+const DENSE: &str = "a:=pair(take b)(c):1*2->(2+1)*_\n";
+
+/// Lines with so much text in comments or in names that 32 KiB of them have no more than 1,024 tokens.
+const COMMENTED: &str = "\
+main := pair (comp first iden) (take second) : 1 -> 2^8
+-- Both halves of the input go through the first step, since the second one only looks at what is left of them;
+-- whoever changes the order here has to change it in the lines below too, or the types no longer fit together.
+first := drop unit -- what the left half holds does not matter, so it is dropped before anything is done with it
+second := witness -- comes with the spending, and its type follows from where it is used in the line at the top
+-- What comes out is eight bits wide; the step behind this one counts on that and would not fit anything wider.
+-- The names are kept short where they stand in a line with others, and long where they are looked up by people.
+-- A line that only gives a type may stand anywhere; it is put next to the line with the expression all the same.
+";
+const LONG_NAMES: &str = "\
+check_that_the_left_half_of_the_input_is_not_larger_than_the_limit := \
+comp take_the_left_half_of_the_input_and_put_the_limit_beside_it jet_less_or_equal_of_two_words_of_32_bits
+take_the_left_half_of_the_input_and_put_the_limit_beside_it := \
+pair the_left_half_of_the_input_as_it_was_handed_in the_limit_that_was_agreed_upon_by_both_sides
+";
 
 fn main() {
     println!("ratio: the library's time over the Rust's; below 1 the library is faster");
@@ -29,6 +54,48 @@ fn main() {
             position_line(kind, &text);
         }
     }
+    lex_lines();
+}
+
+/// Times the lexers, and how the library's time grows with the text.
+fn lex_lines() {
+    println!("lexing: each call of the library clears its table itself, and that is timed with it");
+    println!("lexing: the Rust counts line and column from the start for every token");
+    println!("lexing: the Rust's tokens come from a stand-in for logos; logos itself is not timed");
+    lex_time("dense tokens", DENSE, SIZES[0]);
+    for (kind, pattern) in [
+        ("program text with long comments", COMMENTED),
+        ("program text with long names", LONG_NAMES),
+    ] {
+        let [_, middle, large] = SIZES.map(|size| lex_time(kind, pattern, size));
+        let growth = large / middle;
+        println!("the library's time from 8 to 32 KiB of {kind}: {growth:.2} times as long");
+    }
+}
+
+/// Prints a line about lexing, and gives the library's time.
+fn lex_time(kind: &str, pattern: &str, size: usize) -> f64 {
+    let text = lines_of_length(pattern, size);
+    let mut table = [0; TABLE];
+    let tokens = library::lex_all(text.as_bytes(), &mut table).expect("a text that lexes");
+    let (library, rust) = medians(
+        || library::lex_all(black_box(text.as_bytes()), &mut table),
+        || oracle::lex_all_positions(black_box(&text)),
+    );
+    println!(
+        "lex_all against the oracle, {} KiB of {kind}, {tokens} tokens: library {library:.0} ns, {}, \
+        Rust {rust:.0} ns, {}, ratio {:.3}",
+        size >> 10,
+        speed(size, library),
+        speed(size, rust),
+        library / rust
+    );
+    library
+}
+
+/// Bytes per second, in millions.
+fn speed(bytes: usize, nanos: f64) -> String {
+    format!("{:.1} million bytes per second", bytes as f64 * 1e3 / nanos)
 }
 
 fn check_line(kind: &str, text: &str) {
@@ -101,6 +168,19 @@ fn per_call<A>(work: &mut impl FnMut() -> A, count: u32) -> f64 {
 fn median(mut times: Vec<f64>) -> f64 {
     times.sort_by(f64::total_cmp);
     times[times.len() / 2]
+}
+
+/// The pattern's lines over and over, as many as `length` bytes hold; spaces fill the rest.
+fn lines_of_length(pattern: &str, length: usize) -> String {
+    let mut text = String::with_capacity(length);
+    for line in pattern.split_inclusive('\n').cycle() {
+        if text.len() + line.len() > length {
+            break;
+        }
+        text.push_str(line);
+    }
+    text.push_str(&" ".repeat(length - text.len()));
+    text
 }
 
 /// The pattern over and over, `length` bytes of it; dots fill what a whole character does not.

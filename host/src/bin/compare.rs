@@ -3,9 +3,8 @@
 use std::process::ExitCode;
 use zaghdurem_host::generate::Shape;
 use zaghdurem_host::scale::Scale;
-use zaghdurem_host::tables;
 use zaghdurem_host::tally::Tally;
-use zaghdurem_host::text::{shrink_disagreement, Tallies, PARTS};
+use zaghdurem_host::{lexer, tables, text};
 
 const USAGE: &str = "usage: compare [quick] [--seed N] [--count N]";
 
@@ -35,19 +34,46 @@ fn main() -> ExitCode {
 /// Runs every part of the comparison. The first tally is the library's, the second that
 /// of the reference for positions, which is no answer of the library and stays out of the total.
 fn compare_all(scale: &Scale) -> (Tally, Tally) {
-    let (mut total, mut reference) = (Tally::default(), Tally::default());
+    let mut total = Tally::default();
     total.add(report("limits", tables::compare_limits(scale)));
     total.add(report("words", tables::compare_words(scale)));
-    for (name, compare) in PARTS {
-        let mut tallies = Tallies::default();
+    let (texts, reference) = compare_texts(scale);
+    total.add(texts);
+    total.add(compare_lexers(scale));
+    (total, reference)
+}
+
+/// The library's tally about texts, and that of the reference for positions.
+fn compare_texts(scale: &Scale) -> (Tally, Tally) {
+    let (mut total, mut reference) = (Tally::default(), Tally::default());
+    for (name, compare) in text::PARTS {
+        let mut tallies = text::Tallies::default();
         compare(scale, &mut tallies);
-        shrink_disagreement(&mut tallies.library);
+        text::shrink_disagreement(&mut tallies.library);
         total.add(report(name, tallies.library));
         reference.add(tallies.reference);
         print_files(&tallies.files);
     }
     let reference = report("reference for positions against the Rust, apart", reference);
     (total, reference)
+}
+
+/// The library's tally about tokens; a comparison is one source with its whole table.
+fn compare_lexers(scale: &Scale) -> Tally {
+    let (mut total, mut answers) = (Tally::default(), [0; 6]);
+    for (name, compare) in lexer::PARTS {
+        let mut comparison = lexer::Comparison::default();
+        compare(scale, &mut comparison);
+        comparison.shrink_disagreement();
+        for (sum, count) in answers.iter_mut().zip(comparison.answers) {
+            *sum += count;
+        }
+        total.add(report(name, comparison.tally));
+        print_files(&comparison.files);
+    }
+    println!("lexer, all parts: {total}");
+    print_answers(&answers);
+    total
 }
 
 /// Prints a part's line, and its smallest disagreement if there is one.
@@ -70,6 +96,15 @@ fn print_files(made: &[u64]) {
         .map(|(shape, count)| format!("{count} {shape:?}"))
         .collect();
     println!("  files made: {}", shown.join(", "));
+}
+
+/// Prints how many sources lex, and how many are refused by each number.
+fn print_answers([lexed, refused @ ..]: &[u64; 6]) {
+    let shown: Vec<String> = (1..)
+        .zip(refused)
+        .map(|(no, count)| format!("{count} refused {no}"))
+        .collect();
+    println!("  answers: {lexed} lexed, {}", shown.join(", "));
 }
 
 /// What the arguments ask for.

@@ -22,7 +22,7 @@ const CHARACTERS: [&str; 10] = [
 ];
 
 /// Sequences that are no character: cut short, too long for their value, surrogates, too large.
-const ILL_FORMED: [&[u8]; 18] = [
+pub const ILL_FORMED: [&[u8]; 18] = [
     b"\x80",
     b"\xbf",
     b"\xc2",

@@ -1,0 +1,8 @@
+pub mod Laws
+pub mod Longest
+pub mod Arms
+pub mod Steps
+pub mod Going
+pub mod Answers
+pub mod Tiling
+pub mod Examples

@@ -1,0 +1,17 @@
+use Rattle.lex.specs.Words.{named}
+use borrow.Author.Needs.{needs}
+use Rattle.lex.proofs.named.Statement.{statement}
+use Rattle.lex.proofs.named.Tie as tie
+
+is-word-requires : tie.Need-is-word-requires
+is-word-requires c κs = search needs
+
+choose-requires : tie.Need-choose-requires
+choose-requires c κs = search needs
+
+returns : tie.Need-returns
+unfolding named
+returns c = rw (c .choose .ensures, c .before .is-word .ensures)
+
+pub named-spec : {M : Type 1} → statement M
+named-spec = tie.close (tie.spec is-word-requires choose-requires returns)
