@@ -1,10 +1,11 @@
 -- How the code finds what the rows give: by the first byte, and the kind of n bytes that are a symbol by the keywords, then
 -- as a jet. No rules of their own: proofs/Arms.antt shows that they give the rows' answer.
-use Prim.Native.Nat.{ℕ, _+_}
+use Prim.Native.Nat.{ℕ, _+_, _<_}
+use Prim.Native.Char.{Char, code}
 use mathlib.Core.Bool.{Bool, _&&_}
 use mathlib.Core.Path.{_≡_}
 use mathlib.Core.List.{List, [], _∷_}
-use lib.ListN.{length, drop}
+use lib.ListN.{length, drop, getD}
 use lib.Dec.{eqb, leb, ltb}
 use Rattle.records.specs.Base.{if_then_else_, bytes}
 use Rattle.records.specs.Limits.{recordLimit, tokenWidth}
@@ -38,9 +39,13 @@ kindBy (f ∷ fs) n s other = named (f .text) (token.number (f .kind)) n s (kind
 unfoldable pub kindOf : (n : ℕ) → (s : List ℕ) → ℕ
 kindOf n s = kindBy keywords n s (if isJet n s then token.number token.jet else token.number token.symbol)
 
+-- s is not empty and begins with the character
+abbrev pub Begins : Char → (s : List ℕ) → Type 0
+Begins c s = (0 < length s) × (getD s 0 0 ≡ code c)
+
 -- the bytes that the code looks for, the last first; a byte that is none of them, as a match on a number knows it
 abbrev pub keys : List ℕ
-keys = 35 ∷ 48 ∷ 50 ∷ 45 ∷ 58 ∷ 10 ∷ 13 ∷ 9 ∷ 32 ∷ 49 ∷ 63 ∷ 125 ∷ 42 ∷ 43 ∷ 41 ∷ 40 ∷ []
+keys = bytes "#02-:\n\r\t 1?}*+)("
 
 abbrev pub NotIn : List ℕ → ℕ → Type 0
 NotIn [] b = Unit {0}

@@ -10,7 +10,7 @@ ghost use Rattle.lex.specs.Rows.{beginsSymbol, has as hasByte, word};
 ghost use Rattle.lex.specs.Longest.{run as runOf, starts, lexAt};
 ghost use Rattle.records.specs.Refusals.{row as rowWith};
 ghost use Rattle.lex.specs.Tokens.{lexing, tokenTable, lexAll, leaves, rowOfEnd, rowOfLex, countOfEnd, countOf};
-ghost use Rattle.lex.specs.Words.{isWord, isJet, named as namedKind, kindOf, keys, NotIn, nextOf, tableNext};
+ghost use Rattle.lex.specs.Words.{isWord, isJet, named as namedKind, kindOf, Begins, keys, NotIn, nextOf, tableNext};
 use records::Span;
 use records::TokenRecord;
 use records::kinds::TokenKind;
@@ -254,7 +254,7 @@ fn word_kind(s: &[u8], n: usize) -> u32
 
 // What stands at the front of s, which begins with `:`,
 fn lex_colon(s: &[u8]) -> Lexed
-    requires { ⌜ (0 < length (now s)) × (getD (now s) 0 0 ≡ 58) ⌝ }
+    requires { ⌜ Begins ":" (now s) ⌝ }
     ensures { λ r. ⌜ r ≡ lexAt (now (s .entry)) ⌝ }
 {
     if text::byte_at(s, 1) == b'=' {
@@ -266,7 +266,7 @@ fn lex_colon(s: &[u8]) -> Lexed
 
 // with `-`,
 fn lex_dash(s: &[u8]) -> Lexed
-    requires { ⌜ (0 < length (now s)) × (getD (now s) 0 0 ≡ 45) ⌝ }
+    requires { ⌜ Begins "-" (now s) ⌝ }
     ensures { λ r. ⌜ r ≡ lexAt (now (s .entry)) ⌝ }
 {
     let b = text::byte_at(s, 1);
@@ -284,7 +284,7 @@ fn lex_dash(s: &[u8]) -> Lexed
 
 // with `2`,
 fn lex_two(s: &[u8]) -> Lexed
-    requires { ⌜ (0 < length (now s)) × (getD (now s) 0 0 ≡ 50) ⌝ }
+    requires { ⌜ Begins "2" (now s) ⌝ }
     ensures { λ r. ⌜ r ≡ lexAt (now (s .entry)) ⌝ }
 {
     let b = text::byte_at(s, 1);
@@ -298,7 +298,7 @@ fn lex_two(s: &[u8]) -> Lexed
 
 // with `0`,
 fn lex_zero(s: &[u8]) -> Lexed
-    requires { ⌜ (0 < length (now s)) × (getD (now s) 0 0 ≡ 48) ⌝ }
+    requires { ⌜ Begins "0" (now s) ⌝ }
     ensures { λ r. ⌜ r ≡ lexAt (now (s .entry)) ⌝ }
 {
     let b = text::byte_at(s, 1);
@@ -321,7 +321,7 @@ fn lex_zero(s: &[u8]) -> Lexed
 
 // with `#`,
 fn lex_hash(s: &[u8]) -> Lexed
-    requires { ⌜ (0 < length (now s)) × (getD (now s) 0 0 ≡ 35) ⌝ }
+    requires { ⌜ Begins "#" (now s) ⌝ }
     ensures { λ r. ⌜ r ≡ lexAt (now (s .entry)) ⌝ }
 {
     if text::byte_at(s, 1) == b'{' {
