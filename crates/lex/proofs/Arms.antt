@@ -19,7 +19,7 @@ use Rattle.lex.specs.declared.Lexed.{Lexed}
 use Rattle.lex.specs.declared.Lexed.the-variants.{Token, Skip, NoMatch}
 use Rattle.lex.specs.Rows.{is, has, word, Row, row, stop, otherRows, wordRows, Fixed, fixedRow, keywords, jetRow, symbolRow}
 use Rattle.lex.specs.Longest.{run, starts, runRest, matchLen, best, better, ofKind, made, lenOf, lexAt}
-use Rattle.lex.specs.Words.{isWord, isJet, named, kindBy, kindOf, keys, NotIn}
+use Rattle.lex.specs.Code.{isWord, isJet, named, kindBy, kindOf, keys, NotIn}
 
 colon : (t : List ℕ) → lexAt (58 ∷ t) ≡ (if (eqb (getD t 0 0) 61) then (ofKind token.assign 2) else (ofKind token.colon 1))
 unfolding lexAt best matchLen starts run

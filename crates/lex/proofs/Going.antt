@@ -24,7 +24,7 @@ use Rattle.lex.specs.declared.Next.{Next}
 use Rattle.lex.specs.declared.Next.the-variants.{Go, End}
 use Rattle.lex.specs.Longest.{lexAt}
 use Rattle.lex.specs.Tokens.{Token, recordOf, Lexing, ends, after, stepBy, lexFrom, lexing, kept, rowsOf, tokenTable}
-use Rattle.lex.specs.Words.{nextOf, tableNext}
+use Rattle.lex.specs.Code.{nextOf, tokenRow, tableNext}
 use Rattle.lex.proofs.Steps.{skip-fits, token-fits}
 
 -- ---- rows of tokens
@@ -117,16 +117,16 @@ module _ (s old out : List ℕ) (at count : ℕ) (g : Going s old at count out) 
         table = ap (tableOf tokenWidth []) (g .is) ∙ table-again tokenWidth [] old (rows-wide (g .tokens)) few ∙ rw (whole, k);
       }
 
-  taken : (k : TokenKind) (n : ℕ) → count < recordLimit → lexAt (drop at s) ≡ OfKind k n → Then s old at (Go (at + n) (count + 1)) (written tokenWidth out (count + 1) (k .0 ∷ at ∷ n ∷ []))
+  taken : (k : TokenKind) (n : ℕ) → count < recordLimit → lexAt (drop at s) ≡ OfKind k n → Then s old at (Go (at + n) (count + 1)) (written tokenWidth out (count + 1) (tokenRow k at n))
   taken k n f e =
       let fits = token-fits s at h k n e in
       let len : length (take n (drop at s)) ≡ n = length-take-le n (drop at s) (omega (arith, length-drop at s, fits .1)) in
       let size : length (rowsOf (g .tokens)) ≡ count = rows-length (g .tokens) ∙ g .size in
       let later : lexFrom at 0 count (drop at s) ≡ after (here at count (drop at s) some k n ∷ []) (lexFrom (at + n) 0 (count + 1) (drop (at + n) s)) =
       front-token at count (drop at s) some k n (fits .0) f e ∙ rw drop-drop in
-      let row : k .0 ∷ at ∷ n ∷ [] ≡ tokenWords (recordOf (here at count (drop at s) some k n)) = rw len in
-      let app : written tokenWidth (tableOf tokenWidth (rowsOf (g .tokens)) old) (length (rowsOf (g .tokens)) + 1) (k .0 ∷ at ∷ n ∷ []) ≡ tableOf tokenWidth (rowsOf (g .tokens) ++ ((k .0 ∷ at ∷ n ∷ []) ∷ [])) old =
-      table-append tokenWidth old (rows-wide (g .tokens)) (omega arith) (k .0 ∷ at ∷ n ∷ []) (omega arith) refl in (
+      let row : tokenRow k at n ≡ tokenWords (recordOf (here at count (drop at s) some k n)) = rw len in
+      let app : written tokenWidth (tableOf tokenWidth (rowsOf (g .tokens)) old) (length (rowsOf (g .tokens)) + 1) (tokenRow k at n) ≡ tableOf tokenWidth (rowsOf (g .tokens) ++ (tokenRow k at n ∷ [])) old =
+      table-append tokenWidth old (rows-wide (g .tokens)) (omega arith) (tokenRow k at n) (omega arith) refl in (
         record {
           tokens = g .tokens ++ (here at count (drop at s) some k n ∷ []);
           size = length-append (g .tokens) (here at count (drop at s) some k n ∷ []) ∙ omega (arith, g .size);
@@ -142,7 +142,7 @@ module _ (s old out : List ℕ) (at count : ℕ) (g : Going s old at count out) 
   pub next-then : (r : Next) (new : List ℕ) → r ≡ nextOf (lexAt (drop at s)) at count → new ≡ tableNext (lexAt (drop at s)) at count out → Then s old at r new
   next-then r new er en = rw (er, en) (go (lexAt (drop at s)) refl)
     where
-      full : (k : TokenKind) (n : ℕ) (b : Bool) → ltb count recordLimit ≡ b → lexAt (drop at s) ≡ OfKind k n → Then s old at (if b then Go (at + n) (count + 1) else End (TooManyTokens (record { 0 = at }))) (if b then written tokenWidth out (count + 1) (k .0 ∷ at ∷ n ∷ []) else out)
+      full : (k : TokenKind) (n : ℕ) (b : Bool) → ltb count recordLimit ≡ b → lexAt (drop at s) ≡ OfKind k n → Then s old at (if b then Go (at + n) (count + 1) else End (TooManyTokens (record { 0 = at }))) (if b then written tokenWidth out (count + 1) (tokenRow k at n) else out)
       full k n true f e = taken k n (ltb-true count recordLimit f) e
       full k n false f e = refused (TooManyTokens (record { 0 = at })) (λ ts. refl) (front-full at count (drop at s) some k n (ltb-false count recordLimit f) e)
 

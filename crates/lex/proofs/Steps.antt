@@ -17,7 +17,7 @@ use Rattle.lex.specs.declared.Next.the-variants.{Go, End}
 use Rattle.lex.specs.Rows.{rows}
 use Rattle.lex.specs.Longest.{made, lexAt}
 use Rattle.lex.specs.Sets.{Lexes, wins, nothing}
-use Rattle.lex.specs.Words.{nextOf, tableNext}
+use Rattle.lex.specs.Code.{nextOf, tokenRow, tableNext}
 use Rattle.lex.proofs.Laws.{part-rest}
 use Rattle.lex.proofs.Longest.{lexed}
 
@@ -68,7 +68,7 @@ module _ (l : Lexed) (at count : ℕ) (t : List ℕ) where
   pub next-full : (k : TokenKind) (n : ℕ) → l ≡ OfKind k n → recordLimit ≤ count → (End (TooManyTokens (record { 0 = at })) ≡ nextOf l at count) × (t ≡ tableNext l at count t)
   next-full k n e h = rw (e, le-ltb count recordLimit h) (refl, refl)
 
-  pub next-token : (k : TokenKind) (n : ℕ) (new : List ℕ) → l ≡ OfKind k n → count < recordLimit → new ≡ written tokenWidth t (count + 1) (k .0 ∷ at ∷ n ∷ []) → (Go (at + n) (count + 1) ≡ nextOf l at count) × (new ≡ tableNext l at count t)
+  pub next-token : (k : TokenKind) (n : ℕ) (new : List ℕ) → l ≡ OfKind k n → count < recordLimit → new ≡ written tokenWidth t (count + 1) (tokenRow k at n) → (Go (at + n) (count + 1) ≡ nextOf l at count) × (new ≡ tableNext l at count t)
   next-token k n new e h w = rw (e, lt-ltb count recordLimit h) (refl, w)
 
 -- a record written by its words

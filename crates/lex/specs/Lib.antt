@@ -1,6 +1,6 @@
 pub mod Rows
 pub mod Longest
 pub mod Sets
-pub mod Words
+pub mod Code
 pub mod Tokens
 pub mod Tiles

@@ -10,7 +10,7 @@ ghost use Rattle.lex.specs.Rows.{beginsSymbol, has as hasByte, word};
 ghost use Rattle.lex.specs.Longest.{run as runOf, starts, lexAt};
 ghost use Rattle.records.specs.Refusals.{row as rowWith};
 ghost use Rattle.lex.specs.Tokens.{lexing, tokenTable, lexAll, leaves, rowOfEnd, rowOfLex, countOfEnd, countOf};
-ghost use Rattle.lex.specs.Words.{isWord, isJet, named as namedKind, kindOf, Begins, keys, NotIn, nextOf, tableNext};
+ghost use Rattle.lex.specs.Code.{isWord, isJet, named as namedKind, kindOf, Begins, keys, NotIn, nextOf, tokenRow, tableNext};
 use records::Span;
 use records::TokenRecord;
 use records::kinds::TokenKind;
@@ -384,7 +384,7 @@ fn clear_tokens(tokens: &mut [u32])
 // Writes the record of a token that `count` others stand before.
 fn put_token(tokens: &mut [u32], count: u32, kind: TokenKind, at: usize, n: usize)
     requires { ⌜ (count < recordLimit) × (at ≤ sourceLimit) × (n ≤ sourceLimit) ⌝ }
-    ensures { λ _. ⌜ now (tokens .exit) ≡ written tokenWidth (now (tokens .entry)) (count + 1) (kind .0 ∷ at ∷ n ∷ []) ⌝ }
+    ensures { λ _. ⌜ now (tokens .exit) ≡ written tokenWidth (now (tokens .entry)) (count + 1) (tokenRow kind at n) ⌝ }
 {
     let record = TokenRecord {
         kind,

@@ -1,4 +1,4 @@
-use Rattle.lex.specs.Words.{isJet}
+use Rattle.lex.specs.Code.{isJet}
 use borrow.Author.Needs.{needs}
 use Rattle.lex.proofs.is_jet.Statement.{statement}
 use Rattle.lex.proofs.is_jet.Tie as tie

@@ -1,4 +1,4 @@
-use Rattle.lex.specs.Words.{isWord}
+use Rattle.lex.specs.Code.{isWord}
 use borrow.Author.Needs.{needs}
 use Rattle.lex.proofs.is_word.Statement.{statement}
 use Rattle.lex.proofs.is_word.Tie as tie

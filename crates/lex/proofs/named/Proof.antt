@@ -1,4 +1,4 @@
-use Rattle.lex.specs.Words.{named}
+use Rattle.lex.specs.Code.{named}
 use borrow.Author.Needs.{needs}
 use Rattle.lex.proofs.named.Statement.{statement}
 use Rattle.lex.proofs.named.Tie as tie

@@ -1,7 +1,7 @@
 -- `lex::word_kind` meets its contract: each call tries one keyword before those that come after it in the list.
 use mathlib.Core.Path.{ap, _∙_}
 use borrow.Author.Needs.{needs}
-use Rattle.lex.specs.Words.{named, kindOf}
+use Rattle.lex.specs.Code.{named, kindOf}
 use Rattle.lex.proofs.word_kind.Statement.{statement}
 use Rattle.lex.proofs.word_kind.Tie as tie
 

@@ -9,7 +9,9 @@ use lib.ListN.{length, drop, getD}
 use lib.Dec.{eqb, leb, ltb}
 use Rattle.records.specs.Base.{if_then_else_, bytes}
 use Rattle.records.specs.Limits.{recordLimit, tokenWidth}
+use Rattle.records.specs.Records.{tokenWords}
 use Rattle.records.specs.TokenKind as token
+use Rattle.records.specs.declared.kinds.TokenKind.{TokenKind}
 use Rattle.tables.specs.Tables.{written}
 use Rattle.lex.specs.declared.Class.the-variants.{JetPart}
 use Rattle.lex.specs.declared.Lexed.{Lexed}
@@ -59,8 +61,12 @@ nextOf NoMatch at count = End (NoToken (record { 0 = at }))
 nextOf (Skip n) at count = Go (at + n) count
 nextOf (OfKind k n) at count = if ltb count recordLimit then Go (at + n) (count + 1) else End (TooManyTokens (record { 0 = at }))
 
+-- the words of a token's record
+abbrev pub tokenRow : TokenKind → (at n : ℕ) → List ℕ
+tokenRow k at n = tokenWords (record { kind = k; span = record { start = record { 0 = at }; len = n } })
+
 -- the table then
 abbrev pub tableNext : Lexed → (at count : ℕ) → List ℕ → List ℕ
 tableNext NoMatch at count t = t
 tableNext (Skip n) at count t = t
-tableNext (OfKind k n) at count t = if ltb count recordLimit then written tokenWidth t (count + 1) (k .0 ∷ at ∷ n ∷ []) else t
+tableNext (OfKind k n) at count t = if ltb count recordLimit then written tokenWidth t (count + 1) (tokenRow k at n) else t
