@@ -42,6 +42,7 @@ pub mod kind {
 use kind::*;
 
 /// What has to come next.
+#[derive(Clone, Copy)]
 enum Want {
     Line,
     /// `:=` and an expression, or `:` and an arrow.
@@ -61,97 +62,85 @@ enum Want {
     Operators(u32),
 }
 
+use Want::*;
+
+/// What comes of a want. Lists of wants are in reading order.
+enum Round {
+    /// The token is passed, and these are wanted behind it.
+    Passed(Vec<Want>),
+    /// These are wanted instead, at the same token.
+    Stayed(Vec<Want>),
+    /// Depth 129 begins here.
+    Deep,
+    /// The tokens end, or break the grammar.
+    Over,
+}
+
 /// The index of the first token, or the number of tokens for the end of source, at which depth 129 begins. None if it
 /// begins nowhere before the grammar is broken.
 pub fn too_deep(kinds: &[u32]) -> Option<usize> {
     let mut at = 0;
     // the last entry comes next
-    let mut wants = vec![Want::Line];
+    let mut wants = vec![Line];
     while let Some(want) = wants.pop() {
-        let kind = kinds.get(at).copied();
-        // a token is passed at the end of this round
-        let mut passed = true;
-        match (want, kind) {
-            (Want::Line, None) => return None,
-            (Want::Line, Some(SYMBOL | UNDERSCORE)) => {
-                wants.push(Want::Line);
-                wants.push(Want::Definition);
+        let next = match round(want, kinds.get(at).copied()) {
+            Round::Passed(next) => {
+                at += 1;
+                next
             }
-
-            (Want::Definition, Some(ASSIGN)) => {
-                wants.push(Want::PerhapsArrow);
-                wants.push(Want::Expression(1));
-            }
-            (Want::Definition, Some(COLON)) => wants.push(Want::Arrow),
-            (Want::PerhapsArrow, Some(COLON)) => wants.push(Want::Arrow),
-            (Want::PerhapsArrow, _) => passed = false,
-            (Want::Arrow, _) => {
-                passed = false;
-                wants.push(Want::Type(1));
-                wants.push(Want::OneOf(&[ARROW]));
-                wants.push(Want::Type(1));
-            }
-
-            (Want::OneOf(kinds), Some(kind)) if kinds.contains(&kind) => {}
-
-            (Want::Expression(depth), _) if depth > DEPTH_LIMIT => return Some(at),
-            (Want::Expression(depth), Some(kind)) => {
-                let child = depth + 1;
-                match kind {
-                    LPAREN => {
-                        wants.push(Want::OneOf(&[RPAREN]));
-                        wants.push(Want::Expression(child));
-                    }
-                    QUESTION => wants.push(Want::OneOf(&[SYMBOL, UNDERSCORE])),
-                    CONST | FAIL => wants.push(Want::OneOf(&[UNDERSCORE, BIN, HEX])),
-                    ASSERTL => {
-                        wants.push(Want::Cmr(child));
-                        wants.push(Want::Expression(child));
-                    }
-                    ASSERTR => {
-                        wants.push(Want::Expression(child));
-                        wants.push(Want::Cmr(child));
-                    }
-                    DISCONNECT..=PAIR => {
-                        wants.push(Want::Expression(child));
-                        wants.push(Want::Expression(child));
-                    }
-                    INJL..=DROP => wants.push(Want::Expression(child)),
-                    UNIT..=WITNESS | JET | SYMBOL | UNDERSCORE => {}
-                    _ => return None,
-                }
-            }
-
-            (Want::Cmr(depth), Some(HASH_BRACE)) => {
-                wants.push(Want::OneOf(&[RBRACE]));
-                wants.push(Want::Expression(depth));
-            }
-            (Want::Cmr(_), Some(CMR)) => {}
-
-            (Want::Type(depth), _) if depth > DEPTH_LIMIT => return Some(at),
-            (Want::Type(depth), _) => {
-                passed = false;
-                wants.push(Want::Operators(depth));
-                wants.push(Want::Atom(depth));
-            }
-            (Want::Atom(depth), Some(LPAREN)) => {
-                wants.push(Want::OneOf(&[RPAREN]));
-                wants.push(Want::Type(depth + 1));
-            }
-            (Want::Atom(_), Some(ONE..=POWER | SYMBOL | UNDERSCORE)) => {}
-            (Want::Operators(depth), Some(PLUS | STAR)) => {
-                wants.push(Want::Operators(depth));
-                wants.push(Want::Atom(depth));
-            }
-            (Want::Operators(_), _) => passed = false,
-
-            _ => return None,
-        }
-        if passed {
-            at += 1;
-        }
+            Round::Stayed(next) => next,
+            Round::Deep => return Some(at),
+            Round::Over => return None,
+        };
+        wants.extend(next.into_iter().rev());
     }
     None
+}
+
+/// What comes of a want before a token of a kind, or before the end. Depth is looked at before the token is.
+fn round(want: Want, kind: Option<u32>) -> Round {
+    match (want, kind) {
+        (Expression(depth) | Type(depth), _) if depth > DEPTH_LIMIT => Round::Deep,
+        (Type(depth), _) => Round::Stayed(vec![Atom(depth), Operators(depth)]),
+        (Arrow, _) => Round::Stayed(vec![Type(1), OneOf(&[ARROW]), Type(1)]),
+        (PerhapsArrow, kind) if kind != Some(COLON) => Round::Stayed(vec![]),
+        (Operators(_), kind) if !matches!(kind, Some(PLUS | STAR)) => Round::Stayed(vec![]),
+        (want, kind) => kind
+            .and_then(|kind| behind(want, kind))
+            .map_or(Round::Over, Round::Passed),
+    }
+}
+
+/// What is wanted behind a token of a kind that meets a want; None if it does not meet it.
+fn behind(want: Want, kind: u32) -> Option<Vec<Want>> {
+    Some(match (want, kind) {
+        (Line, SYMBOL | UNDERSCORE) => vec![Definition, Line],
+        (Definition, ASSIGN) => vec![Expression(1), PerhapsArrow],
+        (Definition | PerhapsArrow, COLON) => vec![Arrow],
+        (OneOf(kinds), kind) if kinds.contains(&kind) => vec![],
+        (Expression(depth), kind) => return operands(kind, depth + 1),
+        (Cmr(depth), HASH_BRACE) => vec![Expression(depth), OneOf(&[RBRACE])],
+        (Cmr(_), CMR) => vec![],
+        (Atom(depth), LPAREN) => vec![Type(depth + 1), OneOf(&[RPAREN])],
+        (Atom(_), ONE..=POWER | SYMBOL | UNDERSCORE) => vec![],
+        (Operators(depth), PLUS | STAR) => vec![Atom(depth), Operators(depth)],
+        _ => return None,
+    })
+}
+
+/// What is wanted behind the first token of an expression whose children have a depth; None if none begins so.
+fn operands(kind: u32, child: u32) -> Option<Vec<Want>> {
+    Some(match kind {
+        LPAREN => vec![Expression(child), OneOf(&[RPAREN])],
+        QUESTION => vec![OneOf(&[SYMBOL, UNDERSCORE])],
+        CONST | FAIL => vec![OneOf(&[UNDERSCORE, BIN, HEX])],
+        ASSERTL => vec![Expression(child), Cmr(child)],
+        ASSERTR => vec![Cmr(child), Expression(child)],
+        DISCONNECT..=PAIR => vec![Expression(child), Expression(child)],
+        INJL..=DROP => vec![Expression(child)],
+        UNIT..=WITNESS | JET | SYMBOL | UNDERSCORE => vec![],
+        _ => return None,
+    })
 }
 
 #[cfg(test)]

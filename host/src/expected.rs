@@ -96,19 +96,21 @@ pub fn sheet(source: &[u8], jets: &[u8]) -> String {
         return "refused jets\n".to_owned();
     }
     let e = expected(source, jets);
-    let mut out = String::new();
-    if e.no != 0 {
-        write!(out, "refused {} {}", e.no, refused_place(source, &e)).unwrap();
-        if e.value != 0 {
-            write!(out, " {}", e.value).unwrap();
-        }
-        out.push('\n');
-        return out;
+    match e.no {
+        0 => listing(source, &e),
+        no => match e.value {
+            0 => format!("refused {no} {}\n", refused_place(source, &e)),
+            value => format!("refused {no} {} {value}\n", refused_place(source, &e)),
+        },
     }
+}
 
+/// The listing of a source that is read: its nodes, roots and errors.
+fn listing(source: &[u8], e: &Expected) -> String {
     let text = std::str::from_utf8(source).expect("a source that is read is UTF-8");
     let part = |start: u32, len: u32| &text[start as usize..(start + len) as usize];
     let place = |start: u32| printed(oracle::offset_to_position(text, start as usize));
+    let mut out = String::new();
     writeln!(out, "nodes {}", e.counts[NODES]).unwrap();
     for (n, number) in e.tables[NODES].chunks(WIDTHS[NODES]).zip(1..) {
         let kind = NODE_WORDS[n[0] as usize - 1];
@@ -119,14 +121,8 @@ pub fn sheet(source: &[u8], jets: &[u8]) -> String {
                 part(name[0], name[1])
             }
         };
-        writeln!(
-            out,
-            "{number} {kind} {name} {} {} {}",
-            place(n[1]),
-            n[3],
-            n[4]
-        )
-        .unwrap();
+        let (at, left, right) = (place(n[1]), n[3], n[4]);
+        writeln!(out, "{number} {kind} {name} {at} {left} {right}").unwrap();
     }
     writeln!(out, "roots {}", e.roots.len()).unwrap();
     for root in &e.roots {
@@ -258,24 +254,8 @@ impl<'a> Records<'a> {
                 first.entry(line.name.as_ref()).or_insert(expression);
             }
 
-            // only an arrow stands behind `:`
             at += 1;
-            let more = |token: &Token| end.is_none_or(|end| token.start < end);
-            while self
-                .tokens
-                .get(at)
-                .is_some_and(|t| more(t) && t.kind != COLON)
-            {
-                at += 1;
-            }
-            let (mut source_type, mut target_type) = (0, 0);
-            if self.tokens.get(at).is_some_and(more) {
-                at += 1;
-                source_type = self.ty(&mut at);
-                assert_eq!(self.tokens[at].kind, ARROW);
-                at += 1;
-                target_type = self.ty(&mut at);
-            }
+            let (source_type, target_type) = self.arrow(&mut at, end);
             self.same_type(source_type, line.arrow.0.as_ref());
             self.same_type(target_type, line.arrow.1.as_ref());
 
@@ -284,6 +264,21 @@ impl<'a> Records<'a> {
         }
         assert_eq!(at, self.tokens.len());
         first
+    }
+
+    /// The numbers of a line's types; the next line begins at the offset `end`. Only an arrow stands behind `:`.
+    fn arrow(&mut self, at: &mut usize, end: Option<usize>) -> (u32, u32) {
+        let more = |token: &Token| end.is_none_or(|end| token.start < end);
+        let rest = self.tokens[*at..].iter().take_while(|token| more(token));
+        *at += rest.take_while(|token| token.kind != COLON).count();
+        if !self.tokens.get(*at).is_some_and(more) {
+            return (0, 0);
+        }
+        *at += 1;
+        let source_type = self.ty(at);
+        assert_eq!(self.tokens[*at].kind, ARROW);
+        *at += 1;
+        (source_type, self.ty(at))
     }
 
     /// An expression's number; its children are recorded before it, the left one first.

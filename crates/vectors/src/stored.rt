@@ -39,7 +39,7 @@ pub(crate) struct Stored {
 fn digit(n: u16) -> u8
     requires { ⌜ n < 10 ⌝ }
 {
-    48 + n as u8
+    b'0' + n as u8
 }
 
 // Reads the file of a case in the folder of this letter.
