@@ -1,5 +1,5 @@
 -- Document 01, Sizes and Refusals: the words of a lent table. `width` is the words of a record.
-use Prim.Native.Nat.{ℕ, _*_, _-_}
+use Prim.Native.Nat.{ℕ, _+_, _*_, _-_}
 use mathlib.Core.List.{List, [], _∷_, _++_}
 use lib.ListN.{length, getD, take, drop, replicate}
 use lib.Seq.{sets}
@@ -28,3 +28,12 @@ wordAt width table n j = getD (recordAt width table n) j 0
 -- would stand past the table's end.
 unfoldable pub written : (width : ℕ) → (table : List ℕ) → (number : ℕ) → (words : List ℕ) → List ℕ
 written width table n ws = if within 1 recordLimit n then sets table ((n - 1) * width) (take width ws) else table
+
+-- A table in which records were written, one behind the other, behind the `before` records that there are.
+unfoldable pub filled : (width : ℕ) → (table : List ℕ) → (before : ℕ) → (records : List (List ℕ)) → List ℕ
+filled width table m [] = table
+filled width table m (r ∷ rs) = filled width (written width table (m + 1) r) (m + 1) rs
+
+-- the words past the first 1,024 records, which belong to the lender
+abbrev pub beyond : (width : ℕ) → (table : List ℕ) → List ℕ
+beyond width table = drop (recordLimit * width) table
