@@ -1,6 +1,6 @@
 -- A text that is lexed without refusal is tiled by its tokens and skips (`tiling`), a text so tiled within the limit is lexed
 -- into just these tokens (`tiles-lexed`), and tokens that tile lie inside, in order, without overlap. Assumes nothing.
-use Prim.Native.Nat.{ℕ, zero, suc, _+_, _-_, _≤_, _<_}
+use Prim.Native.Nat.{ℕ, zero, suc, pred, _+_, _-_, _≤_, _<_}
 use mathlib.Core.Bool.{Bool, true, false}
 use mathlib.Core.Path.{_≡_, refl, sym, ap, _∙_}
 use mathlib.Core.List.{List, [], _∷_, _++_}
@@ -10,13 +10,14 @@ use lib.Dec.{ltb}
 use lib.ListN.{length, take, drop, length-append, length-drop, take-append-drop}
 use lib.Seq.{length-take-le, take-append-seam, drop-append-seam, drop-drop}
 use borrow.Author.Tests.{ltb-true, ltb-false}
+use Rattle.records.specs.Base.{if_then_else_}
 use Rattle.records.specs.Limits.{recordLimit}
 use Rattle.records.specs.declared.kinds.TokenKind.{TokenKind}
 use Rattle.lex.specs.declared.Lexed.{Lexed}
 use Rattle.lex.specs.declared.Lexed.the-variants.{Token as OfKind, Skip, NoMatch}
 use Rattle.lex.specs.declared.LexEnd.the-variants.{Tokens, NoToken, TooManyTokens}
 use Rattle.lex.specs.Longest.{lexAt}
-use Rattle.lex.specs.Tokens.{Token, Lexing, lexFrom, lexing}
+use Rattle.lex.specs.Tokens.{Token, Lexing, ends, after, stepBy, lexFrom, lexing}
 use Rattle.lex.specs.Tiles.{Tiles, end, skip, token, InOrder, Inside}
 use Rattle.lex.proofs.Steps.{Sized, match-sized}
 use Rattle.lex.proofs.Going.{front-none, front-skip, front-full, front-token}
@@ -110,3 +111,24 @@ tiles-inside (token {at} t s es p e r) source d = (
 -- the tokens of a source that is lexed without refusal lie inside it, in order, without overlap, none empty
 pub tokens-lie : (source : List ℕ) (n : ℕ) → lexing source .answer ≡ Tokens n → InOrder 0 (lexing source .tokens) × Inside source (lexing source .tokens)
 tokens-lie source n e = let t = tiling source n e .0 in (tiles-in-order t 0 (omega arith), tiles-inside t source refl)
+
+-- ---- how many tokens there are
+
+few-from : (at j count n : ℕ) (s : List ℕ) → count ≤ recordLimit → lexFrom at j count s .answer ≡ Tokens n → n ≤ recordLimit
+unfolding lexFrom
+few-from at j count n [] h e = let z : count ≡ n = cc in omega arith
+few-from at (suc j) count n (b ∷ s) h e = few-from (suc at) j count n s h e
+few-from at zero count n (b ∷ s) h e = go (lexAt (b ∷ s)) e (λ k c i f. few-from (suc at) k c n s i f)
+  where
+    go : (l : Lexed) → stepBy l (b ∷ s) at count (λ m. lexFrom (suc at) (pred m) count s) (λ m. lexFrom (suc at) (pred m) (suc count) s) .answer ≡ Tokens n → ((k c : ℕ) → c ≤ recordLimit → lexFrom (suc at) k c s .answer ≡ Tokens n → n ≤ recordLimit) → n ≤ recordLimit
+    go NoMatch f again = let z : _≡_ {A = ℕ} 0 1 = cc in absurd (omega arith)
+    go (Skip m) f again = again (pred m) count h f
+    go (OfKind k m) f again = by (ltb count recordLimit) refl f
+      where
+        by : (x : Bool) → ltb count recordLimit ≡ x → (if x then after (record { kind = k; start = at; text = take m (b ∷ s) } ∷ []) (lexFrom (suc at) (pred m) (suc count) s) else ends (TooManyTokens (record { 0 = at }))) .answer ≡ Tokens n → n ≤ recordLimit
+        by true x f = again (pred m) (suc count) (omega (arith, ltb-true count recordLimit x)) f
+        by false x f = let z : _≡_ {A = ℕ} 0 1 = cc in absurd (omega arith)
+
+-- a source that is lexed without refusal has no more tokens than records
+pub tokens-few : (source : List ℕ) (n : ℕ) → lexing source .answer ≡ Tokens n → n ≤ recordLimit
+tokens-few source n e = few-from 0 0 0 n source (omega arith) e

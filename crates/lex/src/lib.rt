@@ -171,7 +171,7 @@ fn begins_symbol(b: u8) -> bool
 }
 
 // How many bytes from `at` on are of the class.
-fn run(s: &[u8], at: usize, c: Class) -> usize
+pub fn run(s: &[u8], at: usize, c: Class) -> usize
     ensures { λ r. ⌜ (r ≡ runOf c (drop at (now (s .entry)))) × (r ≤ length (now (s .entry))) ⌝ }
 {
     let mut i = at;
@@ -186,7 +186,7 @@ fn run(s: &[u8], at: usize, c: Class) -> usize
 }
 
 // Whether the bytes of w stand at the front of s.
-fn stands(s: &[u8], w: &[u8]) -> bool
+pub fn stands(s: &[u8], w: &[u8]) -> bool
     ensures { λ r. ⌜ r ≡ starts (word (now (w .entry))) (now (s .entry)) ⌝ }
 {
     let mut i: usize = 0;

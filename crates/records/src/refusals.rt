@@ -22,4 +22,20 @@ impl Refusal {
     pub const NO_TOKEN: u32 = 4;
 
     pub const TOO_MANY_TOKENS: u32 = 5;
+
+    pub const PARSE_FAILED: u32 = 6;
+
+    pub const BAD_WORD_LENGTH: u32 = 7;
+
+    pub const SHORT_FAIL: u32 = 8;
+
+    pub const LONG_FAIL: u32 = 9;
+
+    pub const UNKNOWN_JET: u32 = 10;
+
+    pub const BAD_POWER: u32 = 11;
+
+    pub const BIG_EXPONENT: u32 = 12;
+
+    pub const TOO_DEEP: u32 = 13;
 }

@@ -1,0 +1,5 @@
+pub mod Powers
+pub mod Lines
+pub mod Jets
+pub mod Packed
+pub mod Examples

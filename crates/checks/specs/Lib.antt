@@ -1,0 +1,4 @@
+pub mod Literals
+pub mod Jets
+pub mod Checks
+pub mod Code

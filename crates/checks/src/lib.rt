@@ -1,0 +1,354 @@
+// Tests on a token's text: the lengths of literals, exponents, jets; and the packed bytes of a literal.
+ghost use mathlib.Core.Path.{_≡_};
+ghost use mathlib.Core.Bool.{true};
+ghost use Prim.Native.Nat.{min, _+_, _-_, _*_, _^_, _≤_, _<_};
+ghost use lib.ListN.{getD};
+ghost use Rattle.records.specs.Limits.{sourceLimit};
+ghost use Rattle.records.specs.Refusals.{row as rowWith, rowOf};
+ghost use Rattle.lex.specs.Code.{isWord};
+ghost use Rattle.lex.specs.declared.Class.the-variants.{Bit, LowHex};
+ghost use Rattle.checks.specs.Literals.{bitLength, log2 as logOf, exponentOf, valueOf, every, isDigits, binBits, hexBits, bitsOf, packedByte, literalByte};
+ghost use Rattle.checks.specs.Jets.{pieces, isOneOf};
+ghost use Rattle.checks.specs.Code.{exponentCap, capped, nibbleAt};
+ghost use Rattle.checks.specs.Checks.{refusedAt, wordVerdict, failVerdict, jetVerdict, powerVerdict};
+use lex::Class;
+use records::Span;
+use records::kinds::TokenKind;
+use records::numbers::ByteOffset;
+use records::refusals::Refusal;
+
+// Why the grammar refuses a token.
+pub enum Fault {
+    ParseFailed,
+    BadWordLength(u32),
+    EntropyInsufficient(u32),
+    EntropyTooMuch(u32),
+    UnknownJet,
+    Bad2ExpNumber(u32),
+    NumberOutOfRange,
+    TooDeep,
+}
+
+// A token's text passes, or it is refused.
+pub enum Verdict {
+    Pass,
+    Fails(Fault),
+}
+
+// A power of two passes as 2^(2^n), or it is refused.
+pub enum PowerVerdict {
+    Power(u32),
+    BadPower(Fault),
+}
+
+// The k of 2^k, if the number is a power of two.
+pub enum Log2 {
+    Exactly(u32),
+    NoPower,
+}
+
+// Bytes of `0b`, `0x` and `2^`, and of `jet_`.
+const PREFIX: u32 = 2;
+
+const PREFIX_BYTES: usize = PREFIX as usize;
+
+const JET_PREFIX: usize = 4;
+
+// Bits that a hex digit says; binary and hex digits that say a byte.
+const BITS_PER_HEX: u32 = 4;
+
+const BITS_PER_BYTE: usize = 8;
+
+const HEX_PER_BYTE: usize = 2;
+
+const RADIX_2: u8 = 2;
+
+const RADIX_10: usize = 10;
+
+const RADIX_16: u8 = 16;
+
+// A digit's byte less its value: of 0 to 9, and of a to f.
+const DIGIT_BASE: u8 = b'0';
+
+const LETTER_BASE: u8 = b'a' - 10;
+
+// The bits that a `fail` takes.
+const FAIL_LEAST: u32 = 128;
+
+const FAIL_MOST: u32 = 512;
+
+// No source has a literal of 2^32 bits, and an exponent is below 2^10.
+const WORD_BOUND: u32 = 32;
+
+const POWER_BOUND: u32 = 10;
+
+// The largest exponent that is read as a number. All above it count as one.
+const EXPONENT_MOST: usize = 4294967295;
+
+const EXPONENT_CAP: usize = EXPONENT_MOST + 1;
+
+// A row of the table of refusals.
+fn row(no: u32, at: ByteOffset, value: u32) -> Refusal
+    ensures { λ r. ⌜ r ≡ rowWith no (at .0) value ⌝ }
+{
+    Refusal {
+        no,
+        value,
+        place: at.0 as usize,
+    }
+}
+
+impl Fault {
+    // The fault as a row of the table of refusals, at a place.
+    pub fn row(self, at: ByteOffset) -> Refusal
+        ensures { λ r. ⌜ r ≡ rowOf (refusedAt (at .0) self) ⌝ }
+    {
+        match self {
+            Fault::ParseFailed => row(Refusal::PARSE_FAILED, at, 0),
+            Fault::BadWordLength(bits) => row(Refusal::BAD_WORD_LENGTH, at, bits),
+            Fault::EntropyInsufficient(bits) => row(Refusal::SHORT_FAIL, at, bits),
+            Fault::EntropyTooMuch(bits) => row(Refusal::LONG_FAIL, at, bits),
+            Fault::UnknownJet => row(Refusal::UNKNOWN_JET, at, 0),
+            Fault::Bad2ExpNumber(exponent) => row(Refusal::BAD_POWER, at, exponent),
+            Fault::NumberOutOfRange => row(Refusal::BIG_EXPONENT, at, 0),
+            Fault::TooDeep => row(Refusal::TOO_DEEP, at, 0),
+        }
+    }
+}
+
+// How many digits stand behind a literal's prefix.
+fn digit_count(len: u32) -> u32
+    ensures { λ r. ⌜ r ≡ len - 2 ⌝ }
+{
+    if PREFIX <= len { len - PREFIX } else { 0 }
+}
+
+// How many bits a literal has, by its kind and how many bytes it has.
+pub fn bit_length(kind: TokenKind, len: u32) -> u32
+    requires { ⌜ len ≤ sourceLimit ⌝ }
+    ensures { λ r. ⌜ r ≡ bitLength kind len ⌝ }
+{
+    if kind.0 == TokenKind::BIN_LITERAL {
+        return digit_count(len);
+    }
+    if kind.0 == TokenKind::HEX_LITERAL {
+        return BITS_PER_HEX * digit_count(len);
+    }
+    0
+}
+
+// 2^k, in 32 bits.
+fn power_of_two(k: u32) -> u32
+    requires { ⌜ k < 32 ⌝ }
+    ensures { λ r. ⌜ r ≡ 2 ^ k ⌝ }
+{
+    1 << k
+}
+
+// The k below the bound with 2^k = n, if there is one.
+fn exact_log2(bound: u32, n: u32) -> Log2
+    requires { ⌜ bound ≤ 32 ⌝ }
+    ensures { λ r. ⌜ r ≡ logOf bound n ⌝ }
+{
+    let mut k = bound;
+    while 0 < k {
+        k -= 1;
+        if n == power_of_two(k) {
+            return Log2::Exactly(k);
+        }
+    }
+    Log2::NoPower
+}
+
+// Whether `const` takes a literal of so many bits.
+pub fn check_word(bits: u32) -> Verdict
+    ensures { λ r. ⌜ r ≡ wordVerdict bits ⌝ }
+{
+    match exact_log2(WORD_BOUND, bits) {
+        Log2::Exactly(_) => Verdict::Pass,
+        Log2::NoPower => Verdict::Fails(Fault::BadWordLength(bits)),
+    }
+}
+
+// Whether `fail` takes a literal of so many bits.
+pub fn check_fail(bits: u32) -> Verdict
+    ensures { λ r. ⌜ r ≡ failVerdict bits ⌝ }
+{
+    if bits < FAIL_LEAST {
+        return Verdict::Fails(Fault::EntropyInsufficient(bits));
+    }
+    if FAIL_MOST < bits {
+        return Verdict::Fails(Fault::EntropyTooMuch(bits));
+    }
+    Verdict::Pass
+}
+
+// Whether the first n bytes of s are the name.
+fn is_name(s: &[u8], n: usize, name: &[u8]) -> bool
+    ensures { λ r. ⌜ r ≡ isWord (now (name .entry)) n (now (s .entry)) ⌝ }
+{
+    if name.len() != n {
+        return false;
+    }
+    lex::stands(s, name)
+}
+
+// Whether the name is a piece of the jet list: one pass, piece after piece.
+fn is_listed(jets: &[u8], name: &[u8]) -> bool
+    ensures { λ r. ⌜ r ≡ isOneOf (now (name .entry)) (pieces (now (jets .entry))) ⌝ }
+{
+    let mut at: usize = 0;
+    while at <= jets.len() {
+        let n = lex::run(jets, at, Class::NotLf);
+        if is_name(&jets[at..], n, name) {
+            return true;
+        }
+        at = at + n + 1;
+    }
+    false
+}
+
+fn lesser(a: usize, b: usize) -> usize
+    ensures { λ r. ⌜ r ≡ min a b ⌝ }
+{
+    if a <= b { a } else { b }
+}
+
+// Whether a jet is known, by its token's text.
+pub fn check_jet(jets: &[u8], text: &[u8]) -> Verdict
+    ensures { λ r. ⌜ r ≡ jetVerdict (now (jets .entry)) (now (text .entry)) ⌝ }
+{
+    let at = lesser(JET_PREFIX, text.len());
+    if is_listed(jets, &text[at..]) {
+        Verdict::Pass
+    } else {
+        Verdict::Fails(Fault::UnknownJet)
+    }
+}
+
+// a less b, but not below 0.
+fn saturating_sub(a: u8, b: u8) -> u8
+    ensures { λ r. ⌜ r ≡ a - b ⌝ }
+{
+    if b <= a { a - b } else { 0 }
+}
+
+// A number with the decimal digit d more, held below the cap.
+fn push_digit(n: usize, d: u8) -> usize
+    requires { ⌜ n ≤ exponentCap ⌝ }
+    ensures { λ r. ⌜ r ≡ capped (10 * n + (d - 48)) ⌝ }
+{
+    let next = RADIX_10 * n + saturating_sub(d, DIGIT_BASE) as usize;
+    lesser(next, EXPONENT_CAP)
+}
+
+// The exponent behind `2^`, which may have any number of digits: its value if that is below the cap.
+fn exponent(text: &[u8]) -> usize
+    ensures { λ r. ⌜ r ≡ capped (exponentOf (now (text .entry))) ⌝ }
+{
+    let mut n: usize = 0;
+    let mut i = PREFIX_BYTES;
+    while i < text.len() {
+        n = push_digit(n, text[i]);
+        i += 1;
+    }
+    n
+}
+
+// The n of 2^(2^n), by the token's text.
+pub fn check_power(text: &[u8]) -> PowerVerdict
+    ensures { λ r. ⌜ r ≡ powerVerdict (now (text .entry)) ⌝ }
+{
+    let e = exponent(text);
+    if EXPONENT_MOST < e {
+        return PowerVerdict::BadPower(Fault::NumberOutOfRange);
+    }
+    let e = e as u32;
+    match exact_log2(POWER_BOUND, e) {
+        Log2::Exactly(n) => PowerVerdict::Power(n),
+        Log2::NoPower => PowerVerdict::BadPower(Fault::Bad2ExpNumber(e)),
+    }
+}
+
+// The value of a digit 0 to 9, a to f.
+fn digit_value(d: u8) -> u8
+    ensures { λ r. ⌜ r ≡ valueOf d ⌝ }
+{
+    if (b'0' <= d) & (d <= b'9') {
+        saturating_sub(d, DIGIT_BASE)
+    } else {
+        saturating_sub(d, LETTER_BASE)
+    }
+}
+
+// The value of the digit at i; 0 past the end.
+fn value_at(digits: &[u8], i: usize) -> u8
+    ensures { λ r. ⌜ r ≡ valueOf (getD (now (digits .entry)) i 0) ⌝ }
+{
+    digit_value(text::byte_at(digits, i))
+}
+
+// Whether a text is the prefix and digits of the class.
+fn is_digits(text: &[u8], prefix: &[u8], c: Class) -> bool
+    ensures { λ r. ⌜ r ≡ isDigits (now (prefix .entry)) c (now (text .entry)) ⌝ }
+{
+    lex::stands(text, prefix)
+        & (PREFIX_BYTES < text.len())
+        & (PREFIX_BYTES + lex::run(text, PREFIX_BYTES, c) == text.len())
+}
+
+// The number that four binary digits from `at` on say.
+fn bin_nibble(digits: &[u8], at: usize) -> u8
+    requires { ⌜ (every Bit (now digits) ≡ true) × (at < 2 ^ 60) ⌝ }
+    ensures { λ r. ⌜ (r ≡ nibbleAt (now (digits .entry)) at) × (r < 16) ⌝ }
+{
+    let a = value_at(digits, at);
+    let b = value_at(digits, at + 1);
+    let c = value_at(digits, at + 2);
+    let d = value_at(digits, at + 3);
+    RADIX_2 * (RADIX_2 * (RADIX_2 * a + b) + c) + d
+}
+
+// A byte of binary digits,
+fn bin_byte(digits: &[u8], index: usize) -> u8
+    requires { ⌜ (every Bit (now digits) ≡ true) × (index < 2 ^ 32) ⌝ }
+    ensures { λ r. ⌜ r ≡ packedByte (binBits (now (digits .entry))) index ⌝ }
+{
+    let at = BITS_PER_BYTE * index;
+    RADIX_16 * bin_nibble(digits, at) + bin_nibble(digits, at + BITS_PER_HEX as usize)
+}
+
+// of hex digits,
+fn hex_byte(digits: &[u8], index: usize) -> u8
+    requires { ⌜ (every LowHex (now digits) ≡ true) × (index < 2 ^ 32) ⌝ }
+    ensures { λ r. ⌜ r ≡ packedByte (hexBits (now (digits .entry))) index ⌝ }
+{
+    let at = HEX_PER_BYTE * index;
+    RADIX_16 * value_at(digits, at) + value_at(digits, at + 1)
+}
+
+// and of any text.
+fn text_byte(text: &[u8], index: usize) -> u8
+    requires { ⌜ index < 2 ^ 32 ⌝ }
+    ensures { λ r. ⌜ r ≡ packedByte (bitsOf (now (text .entry))) index ⌝ }
+{
+    if is_digits(text, b"0b", Class::Bit) {
+        return bin_byte(&text[PREFIX_BYTES..], index);
+    }
+    if is_digits(text, b"0x", Class::LowHex) {
+        return hex_byte(&text[PREFIX_BYTES..], index);
+    }
+    0
+}
+
+// A byte of a literal by its index; 0 past the last, or where the span is no literal.
+pub fn literal_byte(source: &[u8], span: Span, index: u32) -> u8
+    ensures { λ r. ⌜ r ≡ literalByte (now (source .entry)) span index ⌝ }
+{
+    let start = span.start.0 as usize;
+    let end = start + span.len as usize;
+    if source.len() < end {
+        return 0;
+    }
+    text_byte(&source[start..end], index as usize)
+}
