@@ -1,0 +1,12 @@
+pub mod Repeat
+pub mod Obeys
+pub mod Sound
+pub mod Takes
+pub mod Snoc
+pub mod Records
+pub mod Next
+pub mod Accepts
+pub mod Places
+pub mod NoLook
+pub mod Deserved
+pub mod Examples
