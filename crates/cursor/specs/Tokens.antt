@@ -1,0 +1,35 @@
+-- The tokens that a token table holds, for any words: what the parser reads instead of a list.
+use Prim.Native.Nat.{ℕ, zero, suc, _-_}
+use mathlib.Core.List.{List, [], _∷_}
+use Rattle.records.specs.Limits.{tokenWidth}
+use Rattle.records.specs.declared.Span.{Span}
+use Rattle.records.specs.declared.TokenRecord.{TokenRecord}
+use Rattle.tables.specs.Tables.{wordAt}
+use Rattle.lex.specs.Tokens.{Token}
+use Rattle.checks.specs.Literals.{spanText}
+
+-- the span of the token of this number
+abbrev pub spanAt : (tokens : List ℕ) → (number : ℕ) → Span
+spanAt tokens n = record { start = record { 0 = wordAt tokenWidth tokens n 1 }; len = wordAt tokenWidth tokens n 2 }
+
+-- the token of this number; one that does not lie in the source has no text
+unfoldable pub tokenAt : (source tokens : List ℕ) → (number : ℕ) → Token
+tokenAt source tokens n =
+    record {
+      kind = record { 0 = wordAt tokenWidth tokens n 0 };
+      start = wordAt tokenWidth tokens n 1;
+      text = spanText source (spanAt tokens n);
+    }
+
+-- the token of a record
+abbrev pub tokenOf : (source : List ℕ) → TokenRecord → Token
+tokenOf source r = record { kind = r .kind; start = r .span .start .0; text = spanText source (r .span) }
+
+-- k tokens, behind the token of number `passed`
+unfoldable pub tokensFrom : (source tokens : List ℕ) → (k passed : ℕ) → List Token
+tokensFrom source tokens zero p = []
+tokensFrom source tokens (suc k) p = tokenAt source tokens (suc p) ∷ tokensFrom source tokens k (suc p)
+
+-- of `count` tokens those that are left behind the token of number `passed`
+unfoldable pub tokensLeft : (source tokens : List ℕ) → (count passed : ℕ) → List Token
+tokensLeft source tokens n p = tokensFrom source tokens (n - p) p
