@@ -1,0 +1,5 @@
+pub mod OneLine
+pub mod Loop
+pub mod Steps
+pub mod Whole
+pub mod Once

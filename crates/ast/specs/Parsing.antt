@@ -1,0 +1,157 @@
+-- Document 01: the lines of a source, with refusals 1 to 13 in their order; and what the four tables hold then.
+use Prim.Native.Nat.{ℕ, _*_}
+use mathlib.Core.Bool.{Bool, _||_}
+use mathlib.Core.List.{List, [], map}
+use lib.Dec.{ltb}
+use lib.ListN.{length}
+use Rattle.records.specs.Base.{if_then_else_}
+use Rattle.records.specs.Limits.{recordLimit, tokenWidth, lineWidth, exprWidth, typeWidth}
+use Rattle.records.specs.Records.{lineWords, exprWords, typeWords}
+use Rattle.records.specs.Refusals.{rowOf, noRow}
+use Rattle.records.specs.declared.refusals.Refusal.{Refusal}
+use Rattle.tables.specs.Tables.{tableOf}
+use Rattle.lex.specs.Tokens.{Token, Lexing, lexing, rowsOf, lexAll, rowOfLex}
+use Rattle.lex.specs.declared.LexAnswer.{LexAnswer}
+use Rattle.lex.specs.declared.LexAnswer.the-variants.{ShortTable, LongSource, NotUtf8, Ended}
+use Rattle.lex.specs.declared.LexEnd.{LexEnd}
+use Rattle.lex.specs.declared.LexEnd.the-variants.{Tokens, NoToken, TooManyTokens}
+use Rattle.checks.specs.Checks.{refusedAt, checksOf}
+use Rattle.cursor.specs.Cursor.{refusalAt}
+use Rattle.cursor.specs.declared.ParseRefusal.{ParseRefusal}
+use Rattle.grammar.specs.Tree.{Line}
+use Rattle.grammar.specs.Rule.{Parsed, got, stop}
+use Rattle.grammar.specs.Grammar.{lines}
+use Rattle.grammar.specs.Recorded.{lineRecords, linesExprs, linesTypes}
+use Rattle.ast.specs.declared.Counts.{Counts}
+use Rattle.ast.specs.declared.Lexed.{Lexed}
+use Rattle.ast.specs.declared.Lexed.the-variants.{Tokens as Count, No}
+use Rattle.ast.specs.declared.ParseEnd.{ParseEnd}
+use Rattle.ast.specs.declared.ParseEnd.the-variants.{Lines, Refused}
+use Rattle.ast.specs.declared.ParseAnswer.{ParseAnswer}
+use Rattle.ast.specs.declared.ParseAnswer.the-variants.{NotLexed, Parsed as WasParsed}
+
+-- ---- the rows of what was read
+
+abbrev pub lineRows : List Line → List (List ℕ)
+lineRows ls = map lineWords (lineRecords ls 0 0)
+
+abbrev pub exprRowsOf : List Line → List (List ℕ)
+exprRowsOf ls = map exprWords (linesExprs ls 0)
+
+abbrev pub typeRowsOf : List Line → List (List ℕ)
+typeRowsOf ls = map typeWords (linesTypes ls 0)
+
+-- the lines that count: none after a refusal
+abbrev pub linesIn : Parsed (List Line) → List Line
+linesIn (got ls rest) = ls
+linesIn (stop x rest) = []
+
+abbrev pub countsOf : List Token → List Line → Counts
+countsOf ts ls = record { tokens = length ts; lines = length ls; exprs = length (linesExprs ls 0); types = length (linesTypes ls 0) }
+
+-- how the parsing of tokens ends; `end` is end of source as a place
+abbrev pub endBy : (end : ℕ) → List Token → Parsed (List Line) → ParseEnd
+endBy end ts (got ls rest) = Lines (countsOf ts ls)
+endBy end ts (stop x rest) = Refused (refusalAt end x rest)
+
+-- the table of tokens: a refusal sets its records to zero
+abbrev pub tokensKept : Parsed (List Line) → (table : List ℕ) → List ℕ
+tokensKept (got ls rest) table = table
+tokensKept (stop x rest) table = tableOf tokenWidth [] table
+
+-- ---- any source, any jet list, any lent tables
+
+-- the four tables
+pub record Tables : Type 0 where
+  pub tokens : List ℕ
+  pub lines : List ℕ
+  pub exprs : List ℕ
+  pub types : List ℕ
+
+abbrev pub tables : (tokens lines exprs types : List ℕ) → Tables
+tables ts ls es ty = record { tokens = ts; lines = ls; exprs = es; types = ty }
+
+-- refusal 1: a table has fewer words than 1,024 records
+unfoldable pub shortBy : (tokens lines exprs types : ℕ) → Bool
+shortBy ts ls es ty =
+    (((ltb ts (recordLimit * tokenWidth) || ltb ls (recordLimit * lineWidth)) || ltb es (recordLimit * exprWidth))
+    || ltb ty (recordLimit * typeWidth))
+
+abbrev pub short : Tables → Bool
+short t = shortBy (length (t .tokens)) (length (t .lines)) (length (t .exprs)) (length (t .types))
+
+-- the lines of the tokens, by the grammar
+abbrev pub parsing : (source jets : List ℕ) → Parsed (List Line)
+parsing source jets = lines (checksOf jets) (lexing source .tokens)
+
+-- the tokens that count: none after a refusal
+abbrev pub tokensIn : List Token → Parsed (List Line) → List Token
+tokensIn ts (got ls rest) = ts
+tokensIn ts (stop x rest) = []
+
+-- tables with the records of these tokens and lines, and with no other
+abbrev pub holding : List Token → List Line → Tables → Tables
+holding ts ls old =
+    record {
+      tokens = tableOf tokenWidth (rowsOf ts) (old .tokens);
+      lines = tableOf lineWidth (lineRows ls) (old .lines);
+      exprs = tableOf exprWidth (exprRowsOf ls) (old .exprs);
+      types = tableOf typeWidth (typeRowsOf ls) (old .types);
+    }
+
+-- how many tokens there are, if the source has lexed
+abbrev pub lexedBy : LexAnswer → Lexed
+lexedBy ShortTable = No
+lexedBy LongSource = No
+lexedBy (NotUtf8 at) = No
+lexedBy (Ended (Tokens n)) = Count n
+lexedBy (Ended (NoToken at)) = No
+lexedBy (Ended (TooManyTokens at)) = No
+
+-- what is answered once the source is lexed: 6 to 13 only when the whole source has lexed
+abbrev pub parsedBy : (source jets : List ℕ) → LexAnswer → ParseAnswer
+parsedBy source jets (Ended (Tokens n)) = WasParsed (endBy (length source) (lexing source .tokens) (parsing source jets))
+parsedBy source jets (Ended (NoToken at)) = NotLexed (Ended (NoToken at))
+parsedBy source jets (Ended (TooManyTokens at)) = NotLexed (Ended (TooManyTokens at))
+parsedBy source jets ShortTable = NotLexed ShortTable
+parsedBy source jets LongSource = NotLexed LongSource
+parsedBy source jets (NotUtf8 at) = NotLexed (NotUtf8 at)
+
+-- refusal 1 changes no word; 2 to 13 set the records to zero
+abbrev pub leftBy : (source jets : List ℕ) → Tables → LexAnswer → Tables
+leftBy source jets old (Ended (Tokens n)) = holding (tokensIn (lexing source .tokens) (parsing source jets)) (linesIn (parsing source jets)) old
+leftBy source jets old (Ended (NoToken at)) = holding [] [] old
+leftBy source jets old (Ended (TooManyTokens at)) = holding [] [] old
+leftBy source jets old ShortTable = old
+leftBy source jets old LongSource = holding [] [] old
+leftBy source jets old (NotUtf8 at) = holding [] [] old
+
+abbrev pub lexAnswer : (source : List ℕ) → Tables → LexAnswer
+lexAnswer source old = if short old then ShortTable else lexAll source (old .tokens)
+
+unfoldable pub parseAll : (source jets : List ℕ) → Tables → ParseAnswer
+parseAll source jets old = parsedBy source jets (lexAnswer source old)
+
+unfoldable pub tablesAfter : (source jets : List ℕ) → Tables → Tables
+tablesAfter source jets old = leftBy source jets old (lexAnswer source old)
+
+-- ---- its row, and the counts
+
+abbrev pub rowOfEnd : ParseEnd → Refusal
+rowOfEnd (Lines n) = noRow
+rowOfEnd (Refused r) = rowOf (refusedAt (r .at .0) (r .fault))
+
+abbrev pub rowOfParse : ParseAnswer → Refusal
+rowOfParse (NotLexed a) = rowOfLex a
+rowOfParse (WasParsed e) = rowOfEnd e
+
+abbrev pub noCounts : Counts
+noCounts = record { tokens = 0; lines = 0; exprs = 0; types = 0 }
+
+abbrev pub countsOfEnd : ParseEnd → Counts
+countsOfEnd (Lines n) = n
+countsOfEnd (Refused r) = noCounts
+
+abbrev pub countsOfParse : ParseAnswer → Counts
+countsOfParse (NotLexed a) = noCounts
+countsOfParse (WasParsed e) = countsOfEnd e
