@@ -73,6 +73,40 @@ typedef struct {
  * records are zero. Words past the first 1,024 records never change. */
 ZaghduremLexed zaghdurem_lex_all(const uint8_t *source, size_t source_len, uint32_t *tokens, size_t tokens_len);
 
+/* What parsing a source gives: no refusal and how many records each table has, or a refusal, its place and the number
+ * beside it, and no records. */
+typedef struct {
+    uint32_t no;
+    uint32_t value;
+    size_t place;
+    uint32_t tokens;
+    uint32_t lines;
+    uint32_t expressions;
+    uint32_t types;
+} ZaghduremParsed;
+
+/* Parses a source into four lent tables (definitions `parseAll` and `tablesAfter`). A token has three words: kind, start, length; a line five: name start, name
+ * length, expression, source type, target type; an expression six: kind, start, left, right, span start, span length; a
+ * type four: kind, left, right, n, where a name has its start and length as left and right. The jets are the pieces of the
+ * jet list between newline bytes (10). The tables lie apart from each other, from the source and from the jet list.
+ * Refusals, in the order they are looked for: 1, a table has fewer words than 1,024 records, and no word of any is changed;
+ * 2 to 5 as `zaghdurem_lex_all` has them; then, whichever is met first in reading order, 6 at a token that the grammar does
+ * not take; 7 at a `const` literal whose bit length is no power of two; 8 and 9 at a `fail` literal of under 128 or over
+ * 512 bits; 10 at a jet that is not in the list; 11 at a bad power of two; 12 at an exponent over 4,294,967,295; and 13
+ * where depth 129 begins, before the token there is looked at. With 7, 8 and 9 stands the bit length, with 11 the exponent.
+ * The place of a token that is missing is the source's length. Refusals 2 to 13 set the first 1,024 records of every table
+ * to zero; otherwise unused records are zero. Words past the first 1,024 records never change. */
+ZaghduremParsed zaghdurem_parse_line_vector(const uint8_t *source, size_t source_len, const uint8_t *jets, size_t jets_len,
+                                            uint32_t *tokens, size_t tokens_len, uint32_t *lines, size_t lines_len,
+                                            uint32_t *expressions, size_t expressions_len, uint32_t *types,
+                                            size_t types_len);
+
+/* Byte `index`, counted from 0, of the literal at a span of the source (definition `literalByte`), a number below 256: its
+ * bits go first bit highest, four for a hex digit, zeros after the last. 0 past the last byte, and for a span that is no
+ * literal. A literal is a span inside the source whose whole text is `0b` and binary digits or `0x` and lower-case hex
+ * digits, at least one. Any `start` and `len` will do; their sum does not wrap. */
+uint32_t zaghdurem_literal_byte(const uint8_t *source, size_t source_len, uint32_t start, uint32_t len, uint32_t index);
+
 #ifdef __cplusplus
 }
 #endif

@@ -1,13 +1,17 @@
 // The library as a host calls it through C: thin wrappers, each with the contract of what it wraps and nothing asked of the
 // caller. include/zaghdurem.h declares them.
 ghost use mathlib.Core.Path.{_≡_};
+ghost use Rattle.ast.specs.Parsing.{tables as lentTables, parseAll, tablesAfter};
+ghost use Rattle.checks.specs.Literals.{literalByte};
 ghost use Rattle.lex.specs.Tokens.{lexAll, leaves};
 ghost use Rattle.records.specs.Limits.{limits};
 ghost use Rattle.tables.specs.Tables.{wordAt};
 ghost use Rattle.text.specs.Check.{checkText, rowOfText};
 ghost use Rattle.text.specs.Place.{placeOf};
-ghost use Rattle.zaghdurem.specs.Rows.{lexedRow};
+ghost use Rattle.zaghdurem.specs.Rows.{lexedRow, parsedRow};
+use records::Span;
 use records::limits::Limits;
+use records::numbers::ByteOffset;
 use records::refusals::Refusal;
 use text::Position;
 
@@ -67,4 +71,55 @@ pub extern "C" fn zaghdurem_lex_all(source: &[u8], tokens: &mut [u32]) -> LexedR
         place: row.place,
         tokens: answer.count(),
     }
+}
+
+// A row of the table of refusals, and how many records there are of each table.
+#[repr(C)]
+pub struct ParsedRow {
+    pub no: u32,
+    pub value: u32,
+    pub place: usize,
+    pub tokens: u32,
+    pub lines: u32,
+    pub exprs: u32,
+    pub types: u32,
+}
+
+// Parses a source into lent tables of tokens, lines, expressions and types.
+#[no_mangle]
+pub extern "C" fn zaghdurem_parse_line_vector(
+    source: &[u8],
+    jets: &[u8],
+    tokens: &mut [u32],
+    lines: &mut [u32],
+    exprs: &mut [u32],
+    types: &mut [u32],
+) -> ParsedRow
+    ensures answer { λ r. ⌜ r ≡ parsedRow (parseAll (now (source .entry)) (now (jets .entry)) (lentTables (now (tokens .entry)) (now (lines .entry)) (now (exprs .entry)) (now (types .entry)))) ⌝ }
+    ensures tables { λ _. ⌜ lentTables (now (tokens .exit)) (now (lines .exit)) (now (exprs .exit)) (now (types .exit)) ≡ tablesAfter (now (source .entry)) (now (jets .entry)) (lentTables (now (tokens .entry)) (now (lines .entry)) (now (exprs .entry)) (now (types .entry))) ⌝ }
+{
+    let answer = ast::parse_line_vector(source, jets, tokens, lines, exprs, types);
+    let row = answer.row();
+    let counts = answer.counts();
+    ParsedRow {
+        no: row.no,
+        value: row.value,
+        place: row.place,
+        tokens: counts.tokens,
+        lines: counts.lines,
+        exprs: counts.exprs,
+        types: counts.types,
+    }
+}
+
+// A packed byte of a literal; 0 past the last, and from a span that is no literal.
+#[no_mangle]
+pub extern "C" fn zaghdurem_literal_byte(source: &[u8], start: u32, len: u32, index: u32) -> u32
+    ensures { λ r. ⌜ r ≡ literalByte (now (source .entry)) (record { start = record { 0 = start }; len = len }) index ⌝ }
+{
+    let span = Span {
+        start: ByteOffset(start),
+        len,
+    };
+    checks::literal_byte(source, span, index) as u32
 }
