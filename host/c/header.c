@@ -22,6 +22,22 @@ static void lex(const char *bytes) {
            (unsigned)t[5]);
 }
 
+static void parse(const char *bytes, const char *jets) {
+    static uint32_t t[3072], l[5120], e[6144], y[4096];
+    const uint8_t *source = (const uint8_t *)bytes, *list = (const uint8_t *)jets;
+    ZaghduremParsed p = zaghdurem_parse_line_vector(source, strlen(bytes), list, strlen(jets), t, 3072, l, 5120, e, 6144, y,
+                                                    4096);
+    printf("parsed %u %zu %u, %u %u %u %u\n", (unsigned)p.no, p.place, (unsigned)p.value, (unsigned)p.tokens,
+           (unsigned)p.lines, (unsigned)p.expressions, (unsigned)p.types);
+    printf("line %u %u %u %u %u, expression %u %u, type %u %u\n", (unsigned)l[0], (unsigned)l[1], (unsigned)l[2],
+           (unsigned)l[3], (unsigned)l[4], (unsigned)e[0], (unsigned)e[1], (unsigned)y[0], (unsigned)y[3]);
+}
+
+static void byte(const char *bytes, uint32_t start, uint32_t len, uint32_t index) {
+    unsigned b = (unsigned)zaghdurem_literal_byte((const uint8_t *)bytes, strlen(bytes), start, len, index);
+    printf("byte %u\n", b);
+}
+
 int main(void) {
     static const uint32_t table[7] = {1, 2, 3, 4, 5, 6, 7};
     ZaghduremLimits l = zaghdurem_limits();
@@ -36,6 +52,10 @@ int main(void) {
     place("a\nb", 99);
     lex("main := unit");
     lex("a->b");
+    parse("main := comp jet_low iden : 2^8 -> 1", "high\nlow");
+    parse("a := const 0b111", "");
+    byte("const 0x9f4", 6, 5, 1);
+    byte("const 0x9f4", 6, 5, 2);
     printf("word %u %u %u\n", (unsigned)zaghdurem_word(table, 7, 3, 2, 0), (unsigned)zaghdurem_word(table, 7, 3, 3, 1),
            (unsigned)zaghdurem_word(table, 7, 3, 0, 0));
     return 0;

@@ -28,6 +28,19 @@ pub struct Lexed {
     pub tokens: u32,
 }
 
+/// A row of the refusal table, with the number of records of each table. `no` is 0 if nothing was refused.
+#[repr(C)]
+#[derive(Clone, Copy, Debug, Default, PartialEq, Eq)]
+pub struct Parsed {
+    pub no: u32,
+    pub value: u32,
+    pub place: usize,
+    pub tokens: u32,
+    pub lines: u32,
+    pub expressions: u32,
+    pub types: u32,
+}
+
 /// The limits of a source, and the words of one record of each table.
 #[repr(C)]
 #[derive(Clone, Copy, Debug, PartialEq, Eq)]
@@ -60,6 +73,29 @@ extern "C" {
         tokens: *mut u32,
         tokens_len: usize,
     ) -> Lexed;
+
+    pub fn zaghdurem_parse_line_vector(
+        source: *const u8,
+        source_len: usize,
+        jets: *const u8,
+        jets_len: usize,
+        tokens: *mut u32,
+        tokens_len: usize,
+        lines: *mut u32,
+        lines_len: usize,
+        expressions: *mut u32,
+        expressions_len: usize,
+        types: *mut u32,
+        types_len: usize,
+    ) -> Parsed;
+
+    pub fn zaghdurem_literal_byte(
+        source: *const u8,
+        source_len: usize,
+        start: u32,
+        len: u32,
+        index: u32,
+    ) -> u32;
 
     pub fn zaghdurem_limits() -> Limits;
 

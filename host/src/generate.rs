@@ -21,6 +21,7 @@ mod vocabulary;
 pub(crate) use damage::ILL_FORMED;
 pub use damage::{damage_bytes, damaged, misplaced_token};
 pub use depths::depth_limit;
+pub(crate) use depths::{BOTTOMS, EXPRESSION_LEVELS, TYPE_BOTTOMS, TYPE_LEVELS};
 pub use examples::example;
 pub use files::{jet_edges, literal_edges, sound, type_edges, unsound};
 pub use limits::{byte_limit, name_series, token_limit};

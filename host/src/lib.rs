@@ -8,6 +8,7 @@ mod ffi;
 pub mod generate;
 pub mod lexer;
 pub mod library;
+pub mod parser;
 pub mod random;
 pub mod scale;
 pub mod shrink;

@@ -142,6 +142,11 @@ pub fn read_with(source: &str, jets: &Jets) -> Result<Reading, Refusal> {
         .map_err(|errors| refusal(&errors, source))
 }
 
+/// Runs the Rust's `parse_line_vector` alone: the tokens and the lines of a source. Names are not resolved.
+pub fn parse_lines(source: &str, jets: &Jets) -> Result<(Vec<Token>, Vec<ast::Line>), Refusal> {
+    ast::parse_line_vector::<jet::Listed>(source, jets).map_err(|errors| refusal(&errors, source))
+}
+
 /// Runs the Rust's `parse` and gives the number of nodes. Nothing is made into plain data, so this is what to time.
 pub fn run(source: &str, jets: &Jets) -> Result<usize, Refusal> {
     human_encoding::parse::run::<jet::Listed>(source, jets)

@@ -2,7 +2,7 @@
 
 use std::hint::black_box;
 use std::time::{Duration, Instant};
-use zaghdurem_host::library;
+use zaghdurem_host::library::{self, Counts, Tables};
 use zaghdurem_host::tables::RULES;
 
 /// How often each measurement is taken; the median counts.
@@ -19,6 +19,26 @@ const MIXED: &str = "main := unit -- gr\u{fc}n \u{20ac} \u{65e5}\u{672c}\u{8a9e}
 
 /// The words of a token table.
 const TABLE: usize = (RULES.records * RULES.token_words) as usize;
+
+/// The words of the four tables of the parser: tokens, lines, expressions, types.
+const TABLES: [u32; 4] = [
+    RULES.token_words,
+    RULES.line_words,
+    RULES.expression_words,
+    RULES.type_words,
+];
+
+/// The bytes of a full file.
+const FULL: usize = RULES.source_bytes as usize;
+
+const SMALL: &str = "main := pair a iden\na := unit\n";
+
+/// How many bytes of program text with comments a typical file has.
+const TYPICAL: usize = 4 << 10;
+
+/// How many lines of jets there are, by a list of how many bytes.
+const JET_LINES: usize = 340;
+const JET_LIST: usize = 65_536;
 
 /// A line with hardly any white space: two bytes of three begin a token.
 const DENSE: &str = "a:=pair(take b)(c):1*2->(2+1)*_\n";
@@ -55,6 +75,7 @@ fn main() {
         }
     }
     lex_lines();
+    parse_lines();
 }
 
 /// Times the lexers, and how the library's time grows with the text.
@@ -91,6 +112,124 @@ fn lex_time(kind: &str, pattern: &str, size: usize) -> f64 {
         library / rust
     );
     library
+}
+
+/// Times the parsers on a small, a typical and two full files, and on lines of jets.
+fn parse_lines() {
+    println!("parsing: each call of the library clears its four tables itself, and that is timed with it");
+    println!("parsing: the Rust counts line and column from the start for every token, and clones tokens");
+    let typical = lines_of_length(COMMENTED, TYPICAL);
+    parse_time("a small file", SMALL, b"", Jets::Kept);
+    parse_time("a typical file with comments", &typical, b"", Jets::Kept);
+    parse_time(
+        "a full file of short lines",
+        &full_of_tokens(),
+        b"",
+        Jets::Kept,
+    );
+    parse_time("a full file with comments", &full_file(), b"", Jets::Kept);
+    println!("parsing: the library takes the jet list as bytes; the oracle's stand-in for jets makes a set of it");
+    let list = jet_list();
+    for jet in ["first", "last"] {
+        let text = jet_lines(jet);
+        let kind = format!("the {jet} jet of a list of {JET_LIST} bytes in every line");
+        parse_time(
+            &format!("{kind}, looked up in a list made once"),
+            &text,
+            &list,
+            Jets::Kept,
+        );
+        parse_time(
+            &format!("{kind}, looked up in a list made anew"),
+            &text,
+            &list,
+            Jets::Anew,
+        );
+    }
+}
+
+/// Whether the oracle's jet list is made for all calls or for each.
+#[derive(Clone, Copy)]
+enum Jets {
+    Kept,
+    Anew,
+}
+
+/// Prints a line about parsing.
+fn parse_time(kind: &str, text: &str, list: &[u8], jets: Jets) {
+    let mut tables = TABLES.map(|words| vec![0; (RULES.records * words) as usize]);
+    let kept = oracle::Jets::new(list);
+    let known = || match jets {
+        Jets::Kept => kept.clone(),
+        Jets::Anew => oracle::Jets::new(black_box(list)),
+    };
+    let counts = parse(text, list, &mut tables);
+    let (library, rust) = medians(
+        || parse(black_box(text), black_box(list), &mut tables),
+        || oracle::parse_lines(black_box(text), &known()),
+    );
+    println!(
+        "parse_line_vector against the oracle, {kind}, {} bytes, {} tokens, {} lines: library {library:.0} ns, {}, \
+        Rust {rust:.0} ns, {}, ratio {:.3}",
+        text.len(),
+        counts.tokens,
+        counts.lines,
+        speed(text.len(), library),
+        speed(text.len(), rust),
+        library / rust
+    );
+}
+
+fn parse(text: &str, list: &[u8], tables: &mut [Vec<u32>; 4]) -> Counts {
+    let [tokens, lines, expressions, types] = tables;
+    let tables = Tables {
+        tokens,
+        lines,
+        expressions,
+        types,
+    };
+    library::parse_line_vector(text.as_bytes(), list, tables).expect("a text that is read")
+}
+
+/// 1,024 tokens in as few bytes as lines of their kind need.
+fn full_of_tokens() -> String {
+    let lines = (0..113).map(|n| format!("n{n} := comp (take n{}) drop iden\n", n + 1));
+    lines
+        .chain(["n113 := pair pair unit iden witness\n".to_owned()])
+        .collect()
+}
+
+/// The same 1,024 tokens, with comments that make the file as long as it may be.
+fn full_file() -> String {
+    let short = full_of_tokens();
+    let (lines, rest) = (short.lines().count(), FULL - short.len());
+    let mut text = String::with_capacity(FULL);
+    for (number, line) in short.lines().enumerate() {
+        let filled = rest / lines + usize::from(number < rest % lines);
+        text.push_str(&format!("{line} --{}\n", "c".repeat(filled - 3)));
+    }
+    text
+}
+
+/// Lines that are one jet each.
+fn jet_lines(jet: &str) -> String {
+    (0..JET_LINES)
+        .map(|n| format!("n{n} := jet_{jet}\n"))
+        .collect()
+}
+
+/// A list of 65,536 bytes with jets of a usual length.
+fn jet_list() -> Vec<u8> {
+    let mut list = b"first\n".to_vec();
+    let last = b"\nlast\n";
+    list.extend(
+        b"add_with_carry_32\n"
+            .iter()
+            .cycle()
+            .take(JET_LIST - list.len() - last.len()),
+    );
+    list.extend(last);
+    list
 }
 
 /// Bytes per second, in millions.

@@ -1,10 +1,11 @@
 //! Compares the library with the Rust: `compare [quick] [--seed N] [--count N]`.
 
 use std::process::ExitCode;
+use std::time::Instant;
 use zaghdurem_host::generate::Shape;
 use zaghdurem_host::scale::Scale;
 use zaghdurem_host::tally::Tally;
-use zaghdurem_host::{lexer, tables, text};
+use zaghdurem_host::{lexer, parser, tables, text};
 
 const USAGE: &str = "usage: compare [quick] [--seed N] [--count N]";
 
@@ -20,27 +21,34 @@ fn main() -> ExitCode {
         "seed {}, {} inputs for each random part",
         scale.seed, scale.count
     );
-    let (total, reference) = compare_all(&scale);
+    let (total, reference, unmet) = compare_all(&scale);
     println!("total: {total}");
-    if total.disagreements + reference.disagreements == 0 {
-        return ExitCode::SUCCESS;
+    for no in &unmet {
+        println!("refusal {no} was never met by the parser, so nothing is said about it");
     }
-    if let Some(found) = total.smallest {
+    if let Some(found) = &total.smallest {
         println!("the smallest disagreement of all:\n{found}");
     }
-    ExitCode::FAILURE
+    if total.disagreements + reference.disagreements == 0 && unmet.is_empty() {
+        ExitCode::SUCCESS
+    } else {
+        ExitCode::FAILURE
+    }
 }
 
 /// Runs every part of the comparison. The first tally is the library's, the second that
-/// of the reference for positions, which is no answer of the library and stays out of the total.
-fn compare_all(scale: &Scale) -> (Tally, Tally) {
+/// of the reference for positions, which is no answer of the library and stays out of the total. Beside
+/// them stand the numbers of the refusals that no parsed file met.
+fn compare_all(scale: &Scale) -> (Tally, Tally, Vec<usize>) {
     let mut total = Tally::default();
     total.add(report("limits", tables::compare_limits(scale)));
     total.add(report("words", tables::compare_words(scale)));
     let (texts, reference) = compare_texts(scale);
     total.add(texts);
     total.add(compare_lexers(scale));
-    (total, reference)
+    let (parsers, unmet) = compare_parsers(scale);
+    total.add(parsers);
+    (total, reference, unmet)
 }
 
 /// The library's tally about texts, and that of the reference for positions.
@@ -72,8 +80,34 @@ fn compare_lexers(scale: &Scale) -> Tally {
         print_files(&comparison.files);
     }
     println!("lexer, all parts: {total}");
-    print_answers(&answers);
+    print_answers("lexed", &answers);
     total
+}
+
+/// The library's tally about lines and about bytes of literals, and the refusals that were not met. A
+/// comparison is one file with all its tables, or one byte.
+fn compare_parsers(scale: &Scale) -> (Tally, Vec<usize>) {
+    let start = Instant::now();
+    let mut total = parser::Comparison::default();
+    for part in parser::run(scale) {
+        let (files, bytes) = (&part.comparison.tally, &part.comparison.bytes);
+        if files.comparisons > 0 {
+            report(part.name, files.clone());
+        }
+        if bytes.comparisons > 0 {
+            report(&format!("{}: bytes of literals", part.name), bytes.clone());
+        }
+        print_files(&part.comparison.files);
+        total.add(part.comparison);
+    }
+    println!("parser, all parts: {} files, {}", total.parsed, total.tally);
+    println!("bytes of literals, all parts: {}", total.bytes);
+    println!("  time: {:.1} s", start.elapsed().as_secs_f64());
+    print_answers("parsed", &total.answers);
+    let unmet = (1..total.answers.len()).filter(|&no| total.answers[no] == 0);
+    let unmet = unmet.collect();
+    total.tally.add(total.bytes);
+    (total.tally, unmet)
 }
 
 /// Prints a part's line, and its smallest disagreement if there is one.
@@ -98,13 +132,17 @@ fn print_files(made: &[u64]) {
     println!("  files made: {}", shown.join(", "));
 }
 
-/// Prints how many sources lex, and how many are refused by each number.
-fn print_answers([lexed, refused @ ..]: &[u64; 6]) {
-    let shown: Vec<String> = (1..)
-        .zip(refused)
-        .map(|(no, count)| format!("{count} refused {no}"))
+/// Prints how many calls had each answer: `done` if nothing is refused, or the refusal's number.
+fn print_answers(done: &str, answers: &[u64]) {
+    let shown: Vec<String> = answers
+        .iter()
+        .enumerate()
+        .map(|(no, count)| match no {
+            0 => format!("{count} {done}"),
+            no => format!("{count} refused {no}"),
+        })
         .collect();
-    println!("  answers: {lexed} lexed, {}", shown.join(", "));
+    println!("  answers: {}", shown.join(", "));
 }
 
 /// What the arguments ask for.

@@ -6,7 +6,7 @@ use crate::random::Random;
 
 /// What stands before and after the inner expression, one level for each pair.
 /// `#` stands for a literal CMR.
-const EXPRESSION_LEVELS: [(&str, &str); 19] = [
+pub const EXPRESSION_LEVELS: [(&str, &str); 19] = [
     ("(", ")"),
     ("injl", ""),
     ("injr", ""),
@@ -29,7 +29,7 @@ const EXPRESSION_LEVELS: [(&str, &str); 19] = [
 ];
 
 /// What stands innermost; the empty one leaves a gap.
-const BOTTOMS: [&str; 16] = [
+pub const BOTTOMS: [&str; 16] = [
     "unit",
     "unit",
     "unit",
@@ -48,7 +48,7 @@ const BOTTOMS: [&str; 16] = [
     "",
 ];
 
-const TYPE_LEVELS: [(&str, &str); 5] = [
+pub const TYPE_LEVELS: [(&str, &str); 5] = [
     ("(", ")"),
     ("1 + (", ")"),
     ("(", ") * 2"),
@@ -56,7 +56,7 @@ const TYPE_LEVELS: [(&str, &str); 5] = [
     ("( 1 *", ")"),
 ];
 
-const TYPE_BOTTOMS: [&str; 8] = ["1", "2", "_", "x", "( 1 )", "2^3", ")", ""];
+pub const TYPE_BOTTOMS: [&str; 8] = ["1", "2", "_", "x", "( 1 )", "2^3", ")", ""];
 
 /// A file whose innermost part is 126 to 130 deep.
 pub fn depth_limit(random: &mut Random) -> File {
