@@ -99,12 +99,12 @@ pub extern "C" fn zaghdurem_parse_line_vector(
     ensures tables { λ _. ⌜ lentTables (now (tokens .exit)) (now (lines .exit)) (now (exprs .exit)) (now (types .exit)) ≡ tablesAfter (now (source .entry)) (now (jets .entry)) (lentTables (now (tokens .entry)) (now (lines .entry)) (now (exprs .entry)) (now (types .entry))) ⌝ }
 {
     let answer = ast::parse_line_vector(source, jets, tokens, lines, exprs, types);
-    let row = answer.row();
+    let refusal = answer.row();
     let counts = answer.counts();
     ParsedRow {
-        no: row.no,
-        value: row.value,
-        place: row.place,
+        no: refusal.no,
+        value: refusal.value,
+        place: refusal.place,
         tokens: counts.tokens,
         lines: counts.lines,
         exprs: counts.exprs,
