@@ -2,7 +2,8 @@
  *
  * Link libzaghdurem.a (`rt staticlib zaghdurem` makes it). Every function takes any arguments; nothing is to be tested by
  * the caller. What each one answers is proved to be the definition that its comment names (docs/DEFINITIONS.md).
- * A slice passes as a pointer and then its length in elements; if the length is 0 the pointer is not read. */
+ * A slice passes as a pointer and then its length in elements; if the length is 0 the pointer is not read. A table that a
+ * function writes lies apart from its other arguments. */
 #ifndef ZAGHDUREM_H
 #define ZAGHDUREM_H
 
@@ -85,10 +86,10 @@ typedef struct {
     uint32_t types;
 } ZaghduremParsed;
 
-/* Parses a source into four lent tables (definitions `parseAll` and `tablesAfter`). A token has three words: kind, start, length; a line five: name start, name
- * length, expression, source type, target type; an expression six: kind, start, left, right, span start, span length; a
- * type four: kind, left, right, n, where a name has its start and length as left and right. The jets are the pieces of the
- * jet list between newline bytes (10). The tables lie apart from each other, from the source and from the jet list.
+/* Parses a source into four lent tables (definitions `parseAll` and `tablesAfter`). A token has three words: kind, start,
+ * length; a line five: name start, name length, expression, source type, target type; an expression six: kind, start, left,
+ * right, span start, span length; a type four: kind, left, right, n, where a name has its start and length as left and
+ * right. The jets are the pieces of the jet list between newline bytes (10).
  * Refusals, in the order they are looked for: 1, a table has fewer words than 1,024 records, and no word of any is changed;
  * 2 to 5 as `zaghdurem_lex_all` has them; then, whichever is met first in reading order, 6 at a token that the grammar does
  * not take; 7 at a `const` literal whose bit length is no power of two; 8 and 9 at a `fail` literal of under 128 or over
