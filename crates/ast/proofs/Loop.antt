@@ -1,7 +1,7 @@
 -- The loop over lines: the lines read so far, their records in the tables, and what is still to read. Assumes nothing.
 use Prim.Native.Nat.{ℕ, zero, suc, _+_, _-_, _≤_, _<_}
 use mathlib.Core.Path.{_≡_, refl, sym, ap, subst, _∙_}
-use mathlib.Core.List.{List, [], _∷_, _++_, map}
+use mathlib.Core.List.{List, [], _∷_, _++_, map, map-append}
 use mathlib.Core.Option.{Option, none, some}
 use native.Mathlib.Omega.{arith}
 use native.Mathlib.Nat.{zero-add}
@@ -33,11 +33,11 @@ use Rattle.grammar.proofs.Sound.{lines-steps}
 use Rattle.grammar.proofs.Takes.{total, expr-records, type-records, line-records, lines-exprs, lines-types}
 use Rattle.grammar.proofs.Snoc.{lines-exprs-snoc, lines-types-snoc, line-records-snoc}
 use Rattle.exprs.specs.Answers.{exprRows}
-use Rattle.ast.specs.declared.LineAnswer.{LineAnswer}
-use Rattle.ast.specs.declared.LineAnswer.the-variants.{Read, Refused}
-use Rattle.ast.specs.declared.ParseEnd.{ParseEnd}
-use Rattle.ast.specs.declared.ParseEnd.the-variants.{Lines, Refused as NoLines}
-use Rattle.ast.specs.Answers.{LineReads}
+use Rattle.lines.specs.declared.LineAnswer.{LineAnswer}
+use Rattle.lines.specs.declared.LineAnswer.the-variants.{Read, Refused}
+use Rattle.ends.specs.declared.ParseEnd.{ParseEnd}
+use Rattle.ends.specs.declared.ParseEnd.the-variants.{Lines, Refused as NoLines}
+use Rattle.lines.specs.Answers.{LineReads}
 use Rattle.ast.specs.Parsing.{lineRows, exprRowsOf, typeRowsOf, linesIn, endBy}
 
 -- ---- totals
@@ -46,10 +46,6 @@ total-snoc : (w : Line → ℕ) (ls : List Line) (l : Line) → total w (ls ++ (
 unfolding total
 total-snoc w [] l = omega arith
 total-snoc w (k ∷ ls) l = ap (λ (n : ℕ). w k + n) (total-snoc w ls l) ∙ omega arith
-
-map-append : {A B : Type 0} (f : A → B) (xs ys : List A) → map f (xs ++ ys) ≡ map f xs ++ map f ys
-map-append f [] ys = refl
-map-append {B = B} f (x ∷ xs) ys = ap (λ (r : List B). f x ∷ r) (map-append f xs ys)
 
 line-types : (l : Line) (m : ℕ) → length (lineTypes l m) ≡ typesIn l
 unfolding lineTypes

@@ -31,11 +31,11 @@ use Rattle.grammar.specs.Recorded.{lineRecords, linesExprs, linesTypes}
 use Rattle.ast.specs.declared.Lexed.{Lexed}
 use Rattle.ast.specs.declared.Lexed.the-variants.{Tokens as Count, No}
 use Rattle.cursor.specs.declared.ParseRefusal.{ParseRefusal}
-use Rattle.ast.specs.declared.Counts.{Counts}
-use Rattle.ast.specs.declared.ParseEnd.{ParseEnd}
-use Rattle.ast.specs.declared.ParseEnd.the-variants.{Lines, Refused}
-use Rattle.ast.specs.declared.ParseAnswer.{ParseAnswer}
-use Rattle.ast.specs.declared.ParseAnswer.the-variants.{NotLexed, Parsed as WasParsed}
+use Rattle.ends.specs.declared.Counts.{Counts}
+use Rattle.ends.specs.declared.ParseEnd.{ParseEnd}
+use Rattle.ends.specs.declared.ParseEnd.the-variants.{Lines, Refused}
+use Rattle.ends.specs.declared.ParseAnswer.{ParseAnswer}
+use Rattle.ends.specs.declared.ParseAnswer.the-variants.{NotLexed, Parsed as WasParsed}
 use Rattle.ast.specs.Parsing.{Tables, tables, shortBy, lexedBy, tokensKept, tokensIn, lineRows, exprRowsOf, typeRowsOf, linesIn, endBy, parsing, holding, parsedBy, leftBy, parseAll, tablesAfter}
 
 -- ---- room

@@ -7,28 +7,24 @@ use lib.ListN.{length}
 use Rattle.records.specs.Base.{if_then_else_}
 use Rattle.records.specs.Limits.{recordLimit, tokenWidth, lineWidth, exprWidth, typeWidth}
 use Rattle.records.specs.Records.{lineWords, exprWords, typeWords}
-use Rattle.records.specs.Refusals.{rowOf, noRow}
-use Rattle.records.specs.declared.refusals.Refusal.{Refusal}
 use Rattle.tables.specs.Tables.{tableOf}
-use Rattle.lex.specs.Tokens.{Token, Lexing, lexing, rowsOf, lexAll, rowOfLex}
+use Rattle.lex.specs.Tokens.{Token, lexing, rowsOf, lexAll}
 use Rattle.lex.specs.declared.LexAnswer.{LexAnswer}
 use Rattle.lex.specs.declared.LexAnswer.the-variants.{ShortTable, LongSource, NotUtf8, Ended}
-use Rattle.lex.specs.declared.LexEnd.{LexEnd}
 use Rattle.lex.specs.declared.LexEnd.the-variants.{Tokens, NoToken, TooManyTokens}
-use Rattle.checks.specs.Checks.{refusedAt, checksOf}
+use Rattle.checks.specs.Checks.{checksOf}
 use Rattle.cursor.specs.Cursor.{refusalAt}
-use Rattle.cursor.specs.declared.ParseRefusal.{ParseRefusal}
 use Rattle.grammar.specs.Tree.{Line}
 use Rattle.grammar.specs.Rule.{Parsed, got, stop}
 use Rattle.grammar.specs.Grammar.{lines}
 use Rattle.grammar.specs.Recorded.{lineRecords, linesExprs, linesTypes}
-use Rattle.ast.specs.declared.Counts.{Counts}
+use Rattle.ends.specs.declared.Counts.{Counts}
 use Rattle.ast.specs.declared.Lexed.{Lexed}
 use Rattle.ast.specs.declared.Lexed.the-variants.{Tokens as Count, No}
-use Rattle.ast.specs.declared.ParseEnd.{ParseEnd}
-use Rattle.ast.specs.declared.ParseEnd.the-variants.{Lines, Refused}
-use Rattle.ast.specs.declared.ParseAnswer.{ParseAnswer}
-use Rattle.ast.specs.declared.ParseAnswer.the-variants.{NotLexed, Parsed as WasParsed}
+use Rattle.ends.specs.declared.ParseEnd.{ParseEnd}
+use Rattle.ends.specs.declared.ParseEnd.the-variants.{Lines, Refused}
+use Rattle.ends.specs.declared.ParseAnswer.{ParseAnswer}
+use Rattle.ends.specs.declared.ParseAnswer.the-variants.{NotLexed, Parsed as WasParsed}
 
 -- ---- the rows of what was read
 
@@ -134,24 +130,3 @@ parseAll source jets old = parsedBy source jets (lexAnswer source old)
 
 unfoldable pub tablesAfter : (source jets : List ℕ) → Tables → Tables
 tablesAfter source jets old = leftBy source jets old (lexAnswer source old)
-
--- ---- its row, and the counts
-
-abbrev pub rowOfEnd : ParseEnd → Refusal
-rowOfEnd (Lines n) = noRow
-rowOfEnd (Refused r) = rowOf (refusedAt (r .at .0) (r .fault))
-
-abbrev pub rowOfParse : ParseAnswer → Refusal
-rowOfParse (NotLexed a) = rowOfLex a
-rowOfParse (WasParsed e) = rowOfEnd e
-
-abbrev pub noCounts : Counts
-noCounts = record { tokens = 0; lines = 0; exprs = 0; types = 0 }
-
-abbrev pub countsOfEnd : ParseEnd → Counts
-countsOfEnd (Lines n) = n
-countsOfEnd (Refused r) = noCounts
-
-abbrev pub countsOfParse : ParseAnswer → Counts
-countsOfParse (NotLexed a) = noCounts
-countsOfParse (WasParsed e) = countsOfEnd e

@@ -1,4 +1,4 @@
-// Lines: the Rust's `parse_line` and `parse_line_vector`, over lent tables.
+// The lines of a source: the Rust's `parse_line_vector`, over lent tables.
 ghost use mathlib.Core.Path.{_≡_};
 ghost use mathlib.Core.List.{[]};
 ghost use Prim.Native.Nat.{_*_, _≤_};
@@ -8,63 +8,23 @@ ghost use Rattle.tables.specs.Tables.{tableOf, written};
 ghost use Rattle.records.specs.Records.{lineWords};
 ghost use Rattle.checks.specs.Checks.{checksOf};
 ghost use Rattle.cursor.specs.Tokens.{tokensLeft};
-ghost use Rattle.cursor.specs.Cursor.{Ready};
-ghost use Rattle.grammar.specs.Grammar.{line, lines as linesOf};
-ghost use Rattle.ast.specs.Answers.{LineReads, tailBy, lineHeadBy, lineBy};
-ghost use Rattle.ast.specs.Parsing.{tables, shortBy, lexedBy, tokensKept, lineRows, exprRowsOf, typeRowsOf, linesIn, endBy, parseAll, tablesAfter, rowOfEnd, rowOfParse, noCounts, countsOfEnd, countsOfParse};
-use checks::Fault;
-use cursor::Ahead;
+ghost use Rattle.grammar.specs.Grammar.{lines as linesOf};
+ghost use Rattle.ast.specs.Parsing.{tables, shortBy, lexedBy, tokensKept, lineRows, exprRowsOf, typeRowsOf, linesIn, endBy, parseAll, tablesAfter};
 use cursor::Cursor;
-use cursor::ParseRefusal;
-use exprs::ExprAnswer;
+use ends::Counts;
+use ends::ParseAnswer;
+use ends::ParseEnd;
 use lex::LexAnswer;
 use lex::LexEnd;
+use lines::LineAnswer;
 use records::ExprRecord;
 use records::LineRecord;
-use records::Span;
 use records::TokenRecord;
 use records::TypeRecord;
-use records::kinds::TokenKind;
 use records::limits::Limits;
-use records::numbers::ByteOffset;
 use records::numbers::ExprNo;
 use records::numbers::TokenNo;
 use records::numbers::TypeNo;
-use records::refusals::Refusal;
-use types::ArrowAnswer;
-
-// What begins a line: a name and `:=`, or a name and `:`; and the cursor behind them.
-pub enum LineHead {
-    Defined(Span, Cursor),
-    Declared(Span, Cursor),
-    Refused(ParseRefusal),
-}
-
-// A line's record and the cursor behind it, or a refusal.
-pub enum LineAnswer {
-    Read(LineRecord, Cursor),
-    Refused(ParseRefusal),
-}
-
-// How many records there are of each table.
-pub struct Counts {
-    pub tokens: u32,
-    pub lines: u32,
-    pub exprs: u32,
-    pub types: u32,
-}
-
-// What parsing tokens ends with: so many records, or a refusal.
-pub enum ParseEnd {
-    Lines(Counts),
-    Refused(ParseRefusal),
-}
-
-// The answer for any source, any jet list and any lent tables.
-pub enum ParseAnswer {
-    NotLexed(LexAnswer),
-    Parsed(ParseEnd),
-}
 
 // How many tokens there are, if the source has lexed.
 pub enum Lexed {
@@ -80,78 +40,6 @@ const LINE_TABLE: usize = Limits::RECORDS as usize * LineRecord::WORDS as usize;
 const EXPR_TABLE: usize = Limits::RECORDS as usize * ExprRecord::WORDS as usize;
 
 const TYPE_TABLE: usize = Limits::RECORDS as usize * TypeRecord::WORDS as usize;
-
-// What follows the name of a line.
-fn line_tail(source: &[u8], tokens: &[u32], count: u32, name: Span, c: Cursor) -> LineHead
-    requires { ⌜ length (now source) ≤ sourceLimit ⌝ }
-    ensures { λ r. ⌜ r ≡ tailBy (length (now (source .entry))) name c (tokensLeft (now (source .entry)) (now (tokens .entry)) count (c .token .0)) ⌝ }
-{
-    match cursor::peek(source, tokens, count, c) {
-        Ahead::End => LineHead::Refused(ParseRefusal {
-            fault: Fault::ParseFailed,
-            at: ByteOffset(source.len() as u32),
-        }),
-        Ahead::Next(t, d) => {
-            let kind = t.kind;
-            let span = t.span;
-            let at = span.start;
-            let k = kind.0;
-            if k == TokenKind::ASSIGN {
-                return LineHead::Defined(name, d);
-            }
-            if k == TokenKind::COLON {
-                return LineHead::Declared(name, d);
-            }
-            LineHead::Refused(ParseRefusal {
-                fault: Fault::ParseFailed,
-                at,
-            })
-        }
-    }
-}
-
-// What begins a line at the cursor. A name is a symbol or `_`.
-fn line_head(source: &[u8], tokens: &[u32], count: u32, c: Cursor) -> LineHead
-    requires { ⌜ length (now source) ≤ sourceLimit ⌝ }
-    ensures { λ r. ⌜ r ≡ lineHeadBy (length (now (source .entry))) c (tokensLeft (now (source .entry)) (now (tokens .entry)) count (c .token .0)) ⌝ }
-{
-    match cursor::peek(source, tokens, count, c) {
-        Ahead::End => LineHead::Refused(ParseRefusal {
-            fault: Fault::ParseFailed,
-            at: ByteOffset(source.len() as u32),
-        }),
-        Ahead::Next(t, d) => {
-            let kind = t.kind;
-            let span = t.span;
-            let at = span.start;
-            if exprs::is_name(kind) {
-                return line_tail(source, tokens, count, span, d);
-            }
-            LineHead::Refused(ParseRefusal {
-                fault: Fault::ParseFailed,
-                at,
-            })
-        }
-    }
-}
-
-// A line with its name, its expression (0 for none) and its arrow.
-fn line_of(name: Span, expr: ExprNo, p: ArrowAnswer) -> LineAnswer
-    ensures { λ r. ⌜ r ≡ lineBy name expr p ⌝ }
-{
-    match p {
-        ArrowAnswer::Read(source, target, c) => LineAnswer::Read(
-            LineRecord {
-                name,
-                expr,
-                source,
-                target,
-            },
-            c,
-        ),
-        ArrowAnswer::Refused(x) => LineAnswer::Refused(x),
-    }
-}
 
 // Writes the record of a line.
 fn put_line(lines: &mut [u32], number: u32, line: LineRecord)
@@ -171,100 +59,6 @@ fn clear_parsed(lines: &mut [u32], exprs: &mut [u32], types: &mut [u32])
     tables::clear(lines, LineRecord::WORDS);
     tables::clear(exprs, ExprRecord::WORDS);
     tables::clear(types, TypeRecord::WORDS);
-}
-
-// No record of any table.
-fn no_counts() -> Counts
-    ensures { λ r. ⌜ r ≡ noCounts ⌝ }
-{
-    Counts {
-        tokens: 0,
-        lines: 0,
-        exprs: 0,
-        types: 0,
-    }
-}
-
-impl ParseEnd {
-    // The end as a row of the table of refusals,
-    fn row(self) -> Refusal
-        ensures { λ r. ⌜ r ≡ rowOfEnd self ⌝ }
-    {
-        match self {
-            ParseEnd::Lines(_) => Refusal {
-                no: Refusal::NONE,
-                value: 0,
-                place: 0,
-            },
-            ParseEnd::Refused(x) => {
-                let fault = x.fault;
-                fault.row(x.at)
-            }
-        }
-    }
-
-    // and how many records there are.
-    fn counts(self) -> Counts
-        ensures { λ r. ⌜ r ≡ countsOfEnd self ⌝ }
-    {
-        match self {
-            ParseEnd::Lines(n) => n,
-            ParseEnd::Refused(_) => no_counts(),
-        }
-    }
-}
-
-impl ParseAnswer {
-    // The answer as a row of the table of refusals,
-    pub fn row(self) -> Refusal
-        ensures { λ r. ⌜ r ≡ rowOfParse self ⌝ }
-    {
-        match self {
-            ParseAnswer::NotLexed(answer) => answer.row(),
-            ParseAnswer::Parsed(end) => end.row(),
-        }
-    }
-
-    // and how many records there are.
-    pub fn counts(self) -> Counts
-        ensures { λ r. ⌜ r ≡ countsOfParse self ⌝ }
-    {
-        match self {
-            ParseAnswer::NotLexed(_) => no_counts(),
-            ParseAnswer::Parsed(end) => end.counts(),
-        }
-    }
-}
-
-// A line.
-pub fn parse_line(
-    source: &[u8],
-    jets: &[u8],
-    tokens: &[u32],
-    count: u32,
-    exprs: &mut [u32],
-    types: &mut [u32],
-    c: Cursor,
-) -> LineAnswer
-    requires { ⌜ length (now source) ≤ sourceLimit ⌝ }
-    ensures { λ r. ⌜ (Ready count c → LineReads (now (source .entry)) (now (tokens .entry)) count c (line (checksOf (now (jets .entry))) (tokensLeft (now (source .entry)) (now (tokens .entry)) count (c .token .0))) r (now (exprs .entry)) (now (exprs .exit)) (now (types .entry)) (now (types .exit))) ⌝ }
-{
-    match line_head(source, tokens, count, c) {
-        LineHead::Defined(name, d) => {
-            match exprs::parse_expr(source, jets, tokens, count, exprs, d, Limits::DEPTH) {
-                ExprAnswer::Read(e, f) => {
-                    let p = types::parse_optional_arrow(source, tokens, count, types, f);
-                    line_of(name, e, p)
-                }
-                ExprAnswer::Refused(x) => LineAnswer::Refused(x),
-            }
-        }
-        LineHead::Declared(name, d) => {
-            let p = types::parse_arrow(source, tokens, count, types, d);
-            line_of(name, ExprNo(0), p)
-        }
-        LineHead::Refused(x) => LineAnswer::Refused(x),
-    }
 }
 
 // Parses tokens into tables of lines, expressions and types. It asks for what the layers above have tested: refusals 1 and 2, and
@@ -295,7 +89,7 @@ pub fn parse_tokens(
             expr: ExprNo(expr),
             ty: TypeNo(ty),
         };
-        match parse_line(source, jets, tokens, count, exprs, types, c) {
+        match lines::parse_line(source, jets, tokens, count, exprs, types, c) {
             LineAnswer::Read(line, d) => {
                 made = cursor::next_number(made);
                 put_line(lines, made, line);

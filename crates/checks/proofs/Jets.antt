@@ -14,12 +14,12 @@ use Rattle.checks.specs.Jets.{Piece, pushed, pieces, same, isOneOf, know
 
 -- ---- equal lists
 
-same-self : (p : List ℕ) → same p p ≡ true
+pub same-self : (p : List ℕ) → same p p ≡ true
 unfolding same
 same-self [] = refl
 same-self (b ∷ p) = rw (eq-eqb b b refl, same-self p)
 
-same-equal : (p q : List ℕ) → same p q ≡ true → p ≡ q
+pub same-equal : (p q : List ℕ) → same p q ≡ true → p ≡ q
 unfolding same
 same-equal [] [] e = refl
 same-equal [] (y ∷ q) e = let z : true ≡ false = sym e in cc

@@ -6,9 +6,11 @@ use native.Mathlib.Omega.{arith}
 use lib.ListN.{length, take, drop}
 use lib.Dec.{eqb, leb}
 use Rattle.records.specs.Base.{if_then_else_}
-use mathlib.Core.Bool.{false}
+use mathlib.Core.Bool.{Bool, true, false, _||_}
 use borrow.Author.Tests.{eq-eqb, ne-eqb, le-leb, lt-leb, lt-ltb, le-ltb}
 use Rattle.records.specs.Limits.{recordLimit, tokenWidth}
+use Rattle.records.specs.TokenKind as token
+use Rattle.records.specs.declared.kinds.TokenKind.{TokenKind}
 use Rattle.records.specs.declared.Span.{Span}
 use Rattle.checks.specs.Literals.{spanText}
 use Rattle.records.specs.declared.TokenRecord.{TokenRecord}
@@ -17,12 +19,14 @@ use Rattle.lex.specs.Tokens.{Token, recordOf}
 use Rattle.records.specs.declared.numbers.ByteOffset.{ByteOffset}
 use Rattle.checks.specs.declared.Fault.{Fault}
 use Rattle.checks.specs.declared.Fault.the-variants.{ParseFailed}
+use Rattle.grammar.specs.Rule.{isOf}
+use Rattle.grammar.specs.Grammar.{names}
 use Rattle.cursor.specs.declared.Cursor.{Cursor}
 use Rattle.cursor.specs.declared.ParseRefusal.{ParseRefusal}
 use Rattle.cursor.specs.declared.Ahead.{Ahead}
 use Rattle.cursor.specs.declared.Ahead.the-variants.{Next, End}
 use Rattle.cursor.specs.declared.Expected.the-variants.{Passed, Refused}
-use Rattle.cursor.specs.Tokens.{tokenAt, tokensLeft}
+use Rattle.cursor.specs.Tokens.{tokenAt, ofKind, tokensLeft}
 use Rattle.cursor.specs.Cursor.{nextNumber, placeOf, refusalAt, stepped, peeked, expected}
 use Rattle.cursor.proofs.Laws.{text-length, left-none, left-next}
 
@@ -97,3 +101,13 @@ module _ (source : List ℕ) (s : Span) where
 
   pub text-outside : length source < s .start .0 + s .len → [] ≡ spanText source s
   text-outside h = rw (lt-leb (s .start .0 + s .len) (length source) h)
+
+-- ---- a kind is one of two
+
+of-two : (a b : Bool) → (a || b) ≡ (a || (b || false))
+of-two true b = refl
+of-two false true = refl
+of-two false false = refl
+
+pub name-test : (k : TokenKind) → (eqb (k .0) (token.number token.symbol) || eqb (k .0) (token.number token.underscore)) ≡ isOf (ofKind k) names
+name-test k = of-two (eqb (k .0) (token.number token.symbol)) (eqb (k .0) (token.number token.underscore))

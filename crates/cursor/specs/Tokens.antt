@@ -4,6 +4,7 @@ use mathlib.Core.List.{List, [], _∷_}
 use Rattle.records.specs.Limits.{tokenWidth}
 use Rattle.records.specs.declared.Span.{Span}
 use Rattle.records.specs.declared.TokenRecord.{TokenRecord}
+use Rattle.records.specs.declared.kinds.TokenKind.{TokenKind}
 use Rattle.tables.specs.Tables.{wordAt}
 use Rattle.lex.specs.Tokens.{Token}
 use Rattle.checks.specs.Literals.{spanText}
@@ -24,6 +25,10 @@ tokenAt source tokens n =
 -- the token of a record
 abbrev pub tokenOf : (source : List ℕ) → TokenRecord → Token
 tokenOf source r = record { kind = r .kind; start = r .span .start .0; text = spanText source (r .span) }
+
+-- a token of this kind
+abbrev pub ofKind : TokenKind → Token
+ofKind k = record { kind = k; start = 0; text = [] }
 
 -- k tokens, behind the token of number `passed`
 unfoldable pub tokensFrom : (source tokens : List ℕ) → (k passed : ℕ) → List Token

@@ -6,8 +6,10 @@ ghost use Rattle.records.specs.Base.{if_then_else_};
 ghost use lib.ListN.{length};
 ghost use Rattle.records.specs.Limits.{sourceLimit};
 ghost use Rattle.lex.specs.Tokens.{recordOf};
-ghost use Rattle.cursor.specs.Tokens.{tokenAt, tokensLeft};
+ghost use Rattle.cursor.specs.Tokens.{tokenAt, ofKind, tokensLeft};
 ghost use Rattle.checks.specs.Literals.{spanText};
+ghost use Rattle.grammar.specs.Rule.{isOf};
+ghost use Rattle.grammar.specs.Grammar.{names};
 ghost use Rattle.cursor.specs.Cursor.{nextNumber, placeOf, refusalAt, peeked, expected};
 use checks::Fault;
 use records::Span;
@@ -162,4 +164,12 @@ pub fn next_number(number: u32) -> u32
     } else {
         number
     }
+}
+
+// A name is a symbol or `_`.
+pub fn is_name(kind: TokenKind) -> bool
+    ensures { λ r. ⌜ r ≡ isOf (ofKind kind) names ⌝ }
+{
+    let k = kind.0;
+    (k == TokenKind::SYMBOL) | (k == TokenKind::UNDERSCORE)
 }

@@ -1,5 +1,4 @@
 pub mod Steps
-pub mod Heads
 pub mod Trees
 pub mod Parses
 pub mod Once

@@ -29,22 +29,23 @@ use Rattle.grammar.specs.Grammar.{Head, leaf, parens, unary, binary, assertl, a
 use Rattle.grammar.specs.Part.{partOf, weight, spanOf}
 use Rattle.grammar.specs.Recorded.{exprRecords}
 use Rattle.grammar.proofs.Takes.{head-takes}
-use Rattle.exprs.specs.declared.Cmr.{Cmr}
-use Rattle.exprs.specs.declared.Cmr.the-variants.{Literal}
-use Rattle.exprs.specs.declared.ExprInner.{ExprInner}
+use Rattle.heads.specs.declared.Cmr.{Cmr}
+use Rattle.heads.specs.declared.Cmr.the-variants.{Literal}
+use Rattle.heads.specs.declared.ExprInner.{ExprInner}
 use Rattle.exprs.specs.declared.ExprAnswer.{ExprAnswer}
 use Rattle.exprs.specs.declared.ExprAnswer.the-variants.{Read, Refused}
 use Rattle.exprs.specs.declared.CmrAnswer.{CmrAnswer}
 use Rattle.exprs.specs.declared.CmrAnswer.the-variants.{Read as ReadCmr, Refused as NoCmr}
-use Rattle.exprs.specs.declared.TwoParts.{TwoParts}
-use Rattle.exprs.specs.declared.TwoParts.the-variants.{Binary as BinaryParts, AssertL as LeftParts, AssertR as RightParts}
-use Rattle.exprs.specs.declared.ExprHead.{ExprHead}
-use Rattle.exprs.specs.declared.ExprHead.the-variants.{Whole, Parens, Unary as UnaryHead, Two as TwoHead, Refused as NoHead}
+use Rattle.heads.specs.declared.TwoParts.{TwoParts}
+use Rattle.heads.specs.declared.TwoParts.the-variants.{Binary as BinaryParts, AssertL as LeftParts, AssertR as RightParts}
+use Rattle.heads.specs.declared.ExprHead.{ExprHead}
+use Rattle.heads.specs.declared.ExprHead.the-variants.{Whole, Parens, Unary as UnaryHead, Two as TwoHead, Refused as NoHead}
 use Rattle.exprs.specs.declared.CmrHead.{CmrHead}
 use Rattle.exprs.specs.declared.CmrHead.the-variants.{Brace, Literal as LiteralHead, Refused as NoCmrHead}
 use Rattle.exprs.specs.declared.Complete.{Complete}
 use Rattle.exprs.specs.declared.Complete.the-variants.{Inner}
-use Rattle.exprs.specs.Answers.{ExprReads, CmrReads, HeadReads, cmrHeadBy, closed, closedCmr, unaryBy, binaryBy, assertLBy, assertRBy, completed, completedTable, TwoReads}
+use Rattle.heads.specs.Answers.{HeadReads}
+use Rattle.exprs.specs.Answers.{ExprReads, CmrReads, cmrHeadBy, closed, closedCmr, unaryBy, binaryBy, assertLBy, assertRBy, completed, completedTable, TwoReads}
 use Rattle.exprs.proofs.Trees.{expr-read, expr-stopped, cmr-read, cmr-stopped, reads-after, leaf-reads, unary-reads, binary-reads, left-reads, right-reads, parens-reads, braces-reads}
 
 -- one depth less for the parts

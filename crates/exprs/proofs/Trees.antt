@@ -1,7 +1,7 @@
 -- Expressions and CMRs that are read: their records behind each other, and each by its head. Assumes nothing.
 use Prim.Native.Nat.{ℕ, suc, _+_, _-_, _≤_, _<_}
 use mathlib.Core.Path.{_≡_, refl, sym, ap, subst, _∙_}
-use mathlib.Core.List.{List, [], _∷_, _++_, map, append-assoc}
+use mathlib.Core.List.{List, [], _∷_, _++_, map, append-assoc, map-append}
 use native.Mathlib.Omega.{arith}
 use native.Mathlib.Nat.{add-zero}
 use lib.ListN.{length, length-append, length-map}
@@ -31,21 +31,21 @@ use Rattle.grammar.specs.Part as part
 use Rattle.grammar.specs.Part.{Part, partOf, cmrPart, cmrSpan, weight, unaryKind, binaryKind, noSpan}
 use Rattle.grammar.specs.Recorded.{partNo, exprRecord, exprRecords}
 use Rattle.grammar.proofs.Takes.{expr-records}
-use Rattle.exprs.specs.declared.Cmr.{Cmr}
-use Rattle.exprs.specs.declared.ExprInner.{ExprInner}
-use Rattle.exprs.specs.declared.ExprInner.the-variants.{AssertL, AssertR, Unary as One, Binary as Two}
+use Rattle.heads.specs.declared.Cmr.{Cmr}
+use Rattle.heads.specs.declared.ExprInner.{ExprInner}
+use Rattle.heads.specs.declared.ExprInner.the-variants.{AssertL, AssertR, Unary as One, Binary as Two}
 use Rattle.exprs.specs.declared.ExprAnswer.{ExprAnswer}
 use Rattle.exprs.specs.declared.ExprAnswer.the-variants.{Read, Refused}
 use Rattle.exprs.specs.declared.CmrAnswer.{CmrAnswer}
 use Rattle.exprs.specs.declared.CmrAnswer.the-variants.{Read as ReadCmr, Refused as NoCmr}
 use Rattle.exprs.specs.declared.Complete.the-variants.{Inner, Refused as Incomplete}
-use Rattle.exprs.specs.Answers.{exprRows, ExprReads, cmrBy, CmrReads, recordBy, Leaf, ofPart, closed, closedCmr, unaryBy, binaryBy, assertLBy, assertRBy, completed, completedTable}
+use Rattle.heads.specs.Answers.{recordBy, Leaf, ofPart}
+use Rattle.exprs.specs.Answers.{exprRows, ExprReads, cmrBy, CmrReads, closed, closedCmr, unaryBy, binaryBy, assertLBy, assertRBy, completed, completedTable}
 
 -- ---- rows
 
 rows-append : (xs ys : List ExprRecord) → map exprWords (xs ++ ys) ≡ map exprWords xs ++ map exprWords ys
-rows-append [] ys = refl
-rows-append (x ∷ xs) ys = ap (λ (r : List (List ℕ)). exprWords x ∷ r) (rows-append xs ys)
+rows-append xs ys = map-append exprWords xs ys
 
 rows-weigh : (p : Part) (m : ℕ) → length (exprRows p m) ≡ weight p
 rows-weigh p m = length-map (exprRecords p m) exprWords ∙ expr-records p m

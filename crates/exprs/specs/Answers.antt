@@ -1,6 +1,6 @@
 -- What the code answers for an expression and a CMR that the grammar reads: their numbers, the cursor behind them and their records
 -- in the table; and the answers of the functions on the way.
-use Prim.Native.Nat.{ℕ, _+_}
+use Prim.Native.Nat.{ℕ}
 use mathlib.Core.Path.{_≡_}
 use mathlib.Core.List.{List, [], _∷_, map}
 use lib.Dec.{eqb}
@@ -9,49 +9,34 @@ use Rattle.records.specs.Base.{if_then_else_}
 use Rattle.records.specs.Limits.{exprWidth}
 use Rattle.records.specs.Records.{exprWords}
 use Rattle.records.specs.TokenKind as token
-use Rattle.records.specs.NodeKind as node
-use Rattle.records.specs.declared.Span.{Span}
-use Rattle.records.specs.declared.ExprRecord.{ExprRecord}
 use Rattle.records.specs.declared.kinds.NodeKind.{NodeKind}
-use Rattle.records.specs.declared.kinds.TokenKind.{TokenKind}
 use Rattle.records.specs.declared.numbers.ByteOffset.{ByteOffset}
 use Rattle.records.specs.declared.numbers.ExprNo.{ExprNo}
 use Rattle.tables.specs.Tables.{written, filled, beyond}
 use Rattle.lex.specs.Tokens.{Token}
-use Rattle.lex.specs.Code.{NotIn}
-use Rattle.checks.specs.declared.Fault.{Fault}
 use Rattle.checks.specs.declared.Fault.the-variants.{ParseFailed}
-use Rattle.checks.specs.declared.Verdict.{Verdict}
-use Rattle.checks.specs.declared.Verdict.the-variants.{Pass, Fails}
-use Rattle.checks.specs.Literals.{bitLength}
-use Rattle.checks.specs.Checks.{wordVerdict, failVerdict, checksOf}
+use Rattle.checks.specs.Checks.{checksOf}
 use Rattle.cursor.specs.declared.Cursor.{Cursor}
 use Rattle.cursor.specs.declared.Expected.{Expected}
 use Rattle.cursor.specs.declared.Expected.the-variants.{Passed, Refused as NotPassed}
 use Rattle.cursor.specs.Tokens.{tokensLeft}
 use Rattle.cursor.specs.Cursor.{refusalAt, stepped, nextNumber, expected, Ready, Reached}
 use Rattle.grammar.specs.Tree as tree
-use Rattle.grammar.specs.Tree.{nullaryToken, Unary, unaryToken, Binary, binaryToken, Expr}
-use Rattle.grammar.specs.Rule.{Parsed, got, stop, goOn, isOf}
-use Rattle.grammar.specs.Grammar.{names, literals, Head, leaf, parens, unary, binary, assertl, assertr, head, exprBy, expr}
-use Rattle.grammar.specs.Part.{Part, partOf, cmrPart, weight, nullaryKind, unaryKind, binaryKind, spanOf, noSpan}
+use Rattle.grammar.specs.Tree.{Expr}
+use Rattle.grammar.specs.Rule.{Parsed, got, stop, goOn}
+use Rattle.grammar.specs.Grammar.{head, exprBy, expr}
+use Rattle.grammar.specs.Part.{Part, partOf, cmrPart, weight, spanOf}
 use Rattle.grammar.specs.Recorded.{partNo, exprRecords}
-use Rattle.exprs.specs.declared.Cmr.{Cmr}
-use Rattle.exprs.specs.declared.Cmr.the-variants.{Expr as OfExpr, Literal}
-use Rattle.exprs.specs.declared.ExprInner.{ExprInner}
-use Rattle.exprs.specs.declared.ExprInner.the-variants.{Reference, AssertL, AssertR, Nullary, Unary as One, Binary as Two, Hole, Fail, Jet, Word}
+use Rattle.heads.specs.declared.Cmr.{Cmr}
+use Rattle.heads.specs.declared.Cmr.the-variants.{Expr as OfExpr, Literal}
+use Rattle.heads.specs.declared.ExprInner.the-variants.{AssertL, AssertR, Unary as One, Binary as Two}
+use Rattle.heads.specs.declared.TwoParts.{TwoParts}
+use Rattle.heads.specs.declared.ExprHead.the-variants.{Two as TwoHead}
+use Rattle.heads.specs.Answers.{recordBy, HeadReads}
 use Rattle.exprs.specs.declared.ExprAnswer.{ExprAnswer}
 use Rattle.exprs.specs.declared.ExprAnswer.the-variants.{Read, Refused}
 use Rattle.exprs.specs.declared.CmrAnswer.{CmrAnswer}
 use Rattle.exprs.specs.declared.CmrAnswer.the-variants.{Read as ReadCmr, Refused as NoCmr}
-use Rattle.exprs.specs.declared.LiteralAnswer.{LiteralAnswer}
-use Rattle.exprs.specs.declared.LiteralAnswer.the-variants.{Read as ReadLiteral, Refused as NoLiteral}
-use Rattle.exprs.specs.declared.TwoParts.{TwoParts}
-use Rattle.exprs.specs.declared.TwoParts.the-variants.{Binary as BinaryParts, AssertL as LeftParts, AssertR as RightParts}
-use Rattle.exprs.specs.declared.ExprHead.{ExprHead}
-use Rattle.exprs.specs.declared.ExprHead.the-variants.{Whole, Parens, Unary as UnaryHead, Two as TwoHead, Refused as NoHead}
-use Rattle.exprs.specs.declared.Keyword.{Keyword}
-use Rattle.exprs.specs.declared.Keyword.the-variants.{Nullary as NullaryWord, Unary as UnaryWord, Binary as BinaryWord, Other as OtherWord}
 use Rattle.exprs.specs.declared.CmrHead.{CmrHead}
 use Rattle.exprs.specs.declared.CmrHead.the-variants.{Brace, Literal as LiteralHead, Refused as NoCmrHead}
 use Rattle.exprs.specs.declared.Complete.{Complete}
@@ -82,52 +67,7 @@ CmrReads s t n c (got k rest) r old new =
     × (new ≡ filled exprWidth old (c .expr .0) (exprRows (cmrPart k) (c .expr .0)))
 CmrReads s t n c (stop x rest) r old new = (r ≡ NoCmr (refusalAt (length s) x rest)) × (beyond exprWidth new ≡ beyond exprWidth old)
 
--- ---- records
-
--- kind, start, left, right, two for a span
-abbrev pub recordWith : (kind : ℕ) → ByteOffset → (left right : ExprNo) → Span → ExprRecord
-recordWith k at l r s = record { kind = record { 0 = k }; start = at; left = l; right = r; span = s }
-
-abbrev pub noExpr : ExprNo
-noExpr = record { 0 = 0 }
-
--- the record of an expression at its place
-abbrev pub recordBy : ExprInner → ByteOffset → ExprRecord
-recordBy (Reference s) at = recordWith (node.number node.ref) at noExpr noExpr s
-recordBy (AssertL e (OfExpr f)) at = recordWith (node.partNumber node.assertl) at e f noSpan
-recordBy (AssertL e (Literal s)) at = recordWith (node.partNumber node.assertl) at e noExpr s
-recordBy (AssertR (OfExpr f) e) at = recordWith (node.partNumber node.assertr) at f e noSpan
-recordBy (AssertR (Literal s) e) at = recordWith (node.partNumber node.assertr) at noExpr e s
-recordBy (Nullary k) at = recordWith (k .0) at noExpr noExpr noSpan
-recordBy (One k e) at = recordWith (k .0) at e noExpr noSpan
-recordBy (Two k l r) at = recordWith (k .0) at l r noSpan
-recordBy (Hole s) at = recordWith (node.partNumber node.hole) at noExpr noExpr s
-recordBy (Fail s) at = recordWith (node.partNumber node.fail) at noExpr noExpr s
-recordBy (Jet s) at = recordWith (node.partNumber node.jet) at noExpr noExpr s
-recordBy (Word s) at = recordWith (node.partNumber node.word) at noExpr noExpr s
-
--- ---- what begins an expression
-
--- an expression of one record
-pub record Leaf (e : Expr) (i : ExprInner) (at : ByteOffset) : Type 0 where
-  pub one : weight (partOf e) ≡ 1
-  pub number : (m : ℕ) → partNo (partOf e) m ≡ m + 1
-  pub row : (m : ℕ) → exprRecords (partOf e) m ≡ recordBy i at ∷ []
-
-abbrev pub ofPart : node.PartKind → NodeKind
-ofPart k = record { 0 = node.partNumber k }
-
--- what the grammar says of a head, the cursor c standing before it
-unfoldable pub HeadReads : (source tokens : List ℕ) → (n : ℕ) → Cursor → Parsed Head → ExprHead → Type 0
-HeadReads s t n c P (Whole i at d) = (e : Expr) × (rest : List Token) × (P ≡ got (leaf e) rest) × Leaf e i at × Reached s t n c d rest 0 0
-HeadReads s t n c P (Parens d) = (rest : List Token) × (P ≡ got parens rest) × Reached s t n c d rest 0 0
-HeadReads s t n c P (UnaryHead k at d) =
-    (u : Unary) × (rest : List Token) × (P ≡ got (unary u (at .0)) rest) × (k ≡ ofPart (unaryKind u)) × Reached s t n c d rest 0 0
-HeadReads s t n c P (TwoHead (BinaryParts k) at d) =
-    (b : Binary) × (rest : List Token) × (P ≡ got (binary b (at .0)) rest) × (k ≡ ofPart (binaryKind b)) × Reached s t n c d rest 0 0
-HeadReads s t n c P (TwoHead LeftParts at d) = (rest : List Token) × (P ≡ got (assertl (at .0)) rest) × Reached s t n c d rest 0 0
-HeadReads s t n c P (TwoHead RightParts at d) = (rest : List Token) × (P ≡ got (assertr (at .0)) rest) × Reached s t n c d rest 0 0
-HeadReads s t n c P (NoHead r) = (x : Fault) × (rest : List Token) × (P ≡ stop x rest) × (r ≡ refusalAt (length s) x rest)
+-- ---- what begins a part
 
 -- For two parts that begin at c: where their keyword is what begins at b, the answer is that for the expression that begins
 -- at b; its parts have so much depth.
@@ -135,58 +75,6 @@ unfoldable pub TwoReads : (source jets tokens : List ℕ) → (n : ℕ) → TwoP
 TwoReads s jets t n k at c depth r old new =
     (b : Cursor) → Ready n b → HeadReads s t n b (head (checksOf jets) (tokensLeft s t n (b .token .0))) (TwoHead k at c)
     → ExprReads s t n b (goOn (head (checksOf jets) (tokensLeft s t n (b .token .0))) (exprBy (checksOf jets) (expr (checksOf jets) depth))) r old new
-
--- a token of this kind
-abbrev pub ofKind : TokenKind → Token
-ofKind k = record { kind = k; start = 0; text = [] }
-
--- a literal that has to come: its span and its bit length
-unfoldable pub literalAnswer : (end : ℕ) → Cursor → List Token → LiteralAnswer
-literalAnswer end c [] = NoLiteral (refusalAt end ParseFailed [])
-literalAnswer end c (t ∷ ts) =
-    if isOf t literals then ReadLiteral (spanOf t) (bitLength (t .kind) (length (t .text))) (stepped c)
-    else NoLiteral (refusalAt end ParseFailed (t ∷ ts))
-
--- the name behind `?`, which is the place of the hole
-unfoldable pub holeHead : (end : ℕ) → Cursor → List Token → ExprHead
-holeHead end c [] = NoHead (refusalAt end ParseFailed [])
-holeHead end c (t ∷ ts) =
-    if isOf t names then Whole (Hole (spanOf t)) (record { 0 = t .start }) (stepped c)
-    else NoHead (refusalAt end ParseFailed (t ∷ ts))
-
--- an expression whose literal or jet, of this span, passed its test or did not
-unfoldable pub testedBy : Verdict → ExprInner → (at : ByteOffset) → Span → Cursor → ExprHead
-testedBy Pass i at s c = Whole i at c
-testedBy (Fails x) i at s c = NoHead (record { fault = x; at = s .start })
-
--- the literal behind `const`, which is its place
-unfoldable pub wordHead : LiteralAnswer → ExprHead
-wordHead (ReadLiteral s bits c) = testedBy (wordVerdict bits) (Word s) (s .start) s c
-wordHead (NoLiteral r) = NoHead r
-
--- the literal behind the `fail` that stands at this place
-unfoldable pub failHead : ByteOffset → LiteralAnswer → ExprHead
-failHead at (ReadLiteral s bits c) = testedBy (failVerdict bits) (Fail s) at s c
-failHead at (NoLiteral r) = NoHead r
-
--- the keywords with nothing but expressions behind them, the last first
-abbrev pub keywords : List token.Kind
-keywords =
-    token.pair ∷ token.comp ∷ token.case ∷ token.disconnect ∷ token.drop ∷ token.take ∷ token.injr ∷ token.injl ∷
-    token.witness ∷ token.iden ∷ token.unit ∷ []
-
--- which of them the token kind of this number is
-unfoldable pub KeywordIs : (k : ℕ) → Keyword → Type 0
-KeywordIs k (NullaryWord n) = (u : tree.Nullary) × (k ≡ token.number (nullaryToken u)) × (n ≡ ofPart (nullaryKind u))
-KeywordIs k (UnaryWord n) = (u : Unary) × (k ≡ token.number (unaryToken u)) × (n ≡ ofPart (unaryKind u))
-KeywordIs k (BinaryWord n) = (u : Binary) × (k ≡ token.number (binaryToken u)) × (n ≡ ofPart (binaryKind u))
-KeywordIs k OtherWord = NotIn (map token.number keywords) k
-
-unfoldable pub keywordHead : Keyword → ByteOffset → Cursor → ExprHead
-keywordHead (NullaryWord k) at c = Whole (Nullary k) at c
-keywordHead (UnaryWord k) at c = UnaryHead k at c
-keywordHead (BinaryWord k) at c = TwoHead (BinaryParts k) at c
-keywordHead OtherWord at c = NoHead (record { fault = ParseFailed; at = at })
 
 -- what begins a CMR
 unfoldable pub cmrHeadBy : (end : ℕ) → Cursor → List Token → CmrHead

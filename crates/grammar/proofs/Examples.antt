@@ -28,7 +28,7 @@ use Rattle.grammar.specs.Recorded.{typeWeight, exprRecords, typeRecords,
 use Rattle.grammar.proofs.Next.{ofKind}
 
 -- where `opened` unfolds, all of these compute
-unfoldable opened : ℕ
+unfoldable pub opened : ℕ
 unfolding starts run matchLen best lexAt lexFrom bitLength log2 numberFrom pieces same isOneOf known wordVerdict failVerdict jetVerdict powerVerdict present goOn oneOf entry choice perhaps repeatFor repeat operand chain typeHead atomBy atom type arrow head cmr exprBy expr perhapsArrow line another lines partOf weight typeWeight exprRecords typeRecords lineRecord lineRecords lineTypes linesExprs linesTypes
 opened = 0
 

@@ -29,12 +29,12 @@ use Rattle.grammar.proofs.Accepts.{lines-derived}
 -- ---- what a part is made of
 
 -- no span, or that of one of the tokens
-data Spanned : List Token → Span → Type 0 where
+pub data Spanned : List Token → Span → Type 0 where
   no : {us : List Token} → Spanned us noSpan
   here : {t : Token} {us : List Token} → Spanned (t ∷ us) (spanOf t)
   later : {t : Token} {us : List Token} {s : Span} → Spanned us s → Spanned (t ∷ us) s
 
-data Made : List Token → Part → Type 0 where
+pub data Made : List Token → Part → Type 0 where
   none : Made [] part.none
   refer : {x : Token} → Made (x ∷ []) (part.refer x)
   own : {ls rs : List Token} {k : PartKind} {s : Span} {l r : Part} (t : Token) → Spanned (t ∷ (ls ++ rs)) s → Made ls l → Made rs r → Made (t ∷ (ls ++ rs)) (part.part k (t .start) s l r)
@@ -43,7 +43,7 @@ data Made : List Token → Part → Type 0 where
   before : {us : List Token} {p : Part} (vs : List Token) → Made us p → Made (us ++ vs) p
 
 -- a line is its name, and what its part is made of
-data LineMade : List Token → Line → Type 0 where
+pub data LineMade : List Token → Line → Type 0 where
   line : {us : List Token} {l : Line} → Made us (linePart l) → LineMade (l .name ∷ us) l
 
 spanned-front : {us : List Token} {s : Span} (vs : List Token) → Spanned us s → Spanned (us ++ vs) s
@@ -80,7 +80,7 @@ module _ (checks : Checks) where
   expr-made : (d : ℕ) {us : List Token} {e : Expr} → IsExpr checks d us e → Made us (partOf e)
   expr-made (suc d) k = expr-by d (λ us e. expr-made d) k
 
-  line-made : {us : List Token} {l : Line} → IsLine checks us l → LineMade us l
+  pub line-made : {us : List Token} {l : Line} → IsLine checks us l → LineMade us l
   line-made (is.plain x t n i k) = line (behind t (expr-made _ k))
   line-made (is.typed {xs = xs} x t u n i k j m) = line (behind t (before (u ∷ xs) (expr-made _ k)))
   line-made (is.declared {xs} x t n i m) = line (behind t (before xs none))
@@ -118,6 +118,12 @@ file-starts checks (is.more {us = us} {ls = ls} k f) = go (line-made checks k) (
     go : {ts : List Token} {l : Line} → LineMade ts l → Starts us (filePlaces ls) → Starts (ts ++ us) (filePlaces (l ∷ ls))
     go (line {l} h) k = take (l .name) (starts-append (made-starts h) k)
 
+-- a start for each place
+starts-few : {us : List Token} {ps : List ℕ} → Starts us ps → length ps ≤ length us
+starts-few end = omega arith
+starts-few (take t h) = omega (arith, starts-few h)
+starts-few (skip t h) = omega (arith, starts-few h)
+
 rising-lower : (m n : ℕ) (ps : List ℕ) → m ≤ n → RisingFrom n ps → RisingFrom m ps
 unfolding RisingFrom
 rising-lower m n [] h r = tt
@@ -143,6 +149,10 @@ rising-differ n (p ∷ ps) r zero zero h k e = refl
 rising-differ n (p ∷ ps) r zero (suc j) h k e = absurd (omega (arith, rising-above (suc p) ps (r .1) j (omega arith)))
 rising-differ n (p ∷ ps) r (suc i) zero h k e = absurd (omega (arith, rising-above (suc p) ps (r .1) i (omega arith)))
 rising-differ n (p ∷ ps) r (suc i) (suc j) h k e = ap suc (rising-differ (suc p) ps (r .1) i j (omega arith) (omega arith) e)
+
+-- a file has no more lines and parts than tokens
+pub places-few : (checks : Checks) (ts : List Token) (ls : List Line) (rest : List Token) → lines checks ts ≡ got ls rest → length (filePlaces ls) ≤ length ts
+places-few checks ts ls rest e = starts-few (file-starts checks (lines-derived checks ts rest ls e .1))
 
 module _ (checks : Checks) (ts : List Token) (ls : List Line) (rest : List Token) (o : InOrder 0 ts) (e : lines checks ts ≡ got ls rest) where
   pub places-rise : Rising (filePlaces ls)

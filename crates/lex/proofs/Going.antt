@@ -2,7 +2,7 @@
 use Prim.Native.Nat.{ℕ, zero, suc, pred, _+_, _-_, _≤_, _<_}
 use mathlib.Core.Bool.{Bool, true, false}
 use mathlib.Core.Path.{_≡_, refl, sym, ap, _∙_}
-use mathlib.Core.List.{List, [], _∷_, _++_, append-assoc, append-nil}
+use mathlib.Core.List.{List, [], _∷_, _++_, append-assoc, append-nil, map-append}
 use native.Mathlib.Omega.{arith}
 use native.Mathlib.Numerals.{add-one}
 use native.Mathlib.Nat.{add-zero}
@@ -36,8 +36,7 @@ pub rows-length : (ts : List Token) → length (rowsOf ts) ≡ length ts
 rows-length ts = length-map ts (λ (t : Token). tokenWords (recordOf t))
 
 rows-append : (ts us : List Token) → rowsOf (ts ++ us) ≡ rowsOf ts ++ rowsOf us
-rows-append [] us = refl
-rows-append (t ∷ ts) us = ap (λ (x : List (List ℕ)). tokenWords (recordOf t) ∷ x) (rows-append ts us)
+rows-append ts us = map-append (λ (t : Token). tokenWords (recordOf t)) ts us
 
 -- ---- what is lexed from an offset on
 

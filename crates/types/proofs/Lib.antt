@@ -2,5 +2,4 @@ pub mod Heads
 pub mod Atoms
 pub mod Chain
 pub mod Steps
-pub mod Arrows
 pub mod Once

@@ -1,10 +1,9 @@
 -- What the code answers for a type that the grammar reads: its number, the cursor behind it and its records in the table; and the
 -- answers of the functions on the way.
-use Prim.Native.Nat.{ℕ, zero, suc, _+_}
+use Prim.Native.Nat.{ℕ, zero, suc}
 use mathlib.Core.Path.{_≡_}
 use mathlib.Core.Bool.{true}
-use mathlib.Core.List.{List, [], _∷_, _++_, map}
-use mathlib.Core.Option.{Option}
+use mathlib.Core.List.{List, [], _∷_, map}
 use lib.Dec.{eqb}
 use lib.ListN.{length}
 use Rattle.records.specs.Base.{if_then_else_}
@@ -12,7 +11,6 @@ use Rattle.records.specs.Limits.{typeWidth}
 use Rattle.records.specs.Records.{typeWords}
 use Rattle.records.specs.TokenKind as token
 use Rattle.records.specs.TypeKind as kind
-use Rattle.records.specs.declared.Span.{Span}
 use Rattle.records.specs.declared.TypeRecord.{TypeRecord}
 use Rattle.records.specs.declared.numbers.ByteOffset.{ByteOffset}
 use Rattle.records.specs.declared.numbers.TypeNo.{TypeNo}
@@ -29,7 +27,7 @@ use Rattle.cursor.specs.declared.Expected.the-variants.{Passed, Refused as NotP
 use Rattle.cursor.specs.Tokens.{tokensLeft}
 use Rattle.cursor.specs.Cursor.{refusalAt, stepped, nextNumber, expected, Reached}
 use Rattle.grammar.specs.Tree as tree
-use Rattle.grammar.specs.Tree.{Ty, present, Arrow, arrowOr}
+use Rattle.grammar.specs.Tree.{Ty, present}
 use Rattle.grammar.specs.Rule.{Parsed, got, stop}
 use Rattle.grammar.specs.Grammar.{whole, group, typeHead}
 use Rattle.grammar.specs.Recorded.{typeRecord, typeWeight, typeNo, typeRecords}
@@ -37,8 +35,6 @@ use Rattle.types.specs.declared.TypeInner.{TypeInner}
 use Rattle.types.specs.declared.TypeInner.the-variants.{Name, One, Two, Product, Sum, TwoTwoN}
 use Rattle.types.specs.declared.TypeAnswer.{TypeAnswer}
 use Rattle.types.specs.declared.TypeAnswer.the-variants.{Read, Refused}
-use Rattle.types.specs.declared.ArrowAnswer.{ArrowAnswer}
-use Rattle.types.specs.declared.ArrowAnswer.the-variants.{Read as ReadArrow, Refused as NoArrow}
 use Rattle.types.specs.declared.AtomHead.{AtomHead}
 use Rattle.types.specs.declared.AtomHead.the-variants.{Whole, Absent, Group, Refused as NoAtom}
 use Rattle.types.specs.declared.Op.{Op}
@@ -60,31 +56,7 @@ TypeReads s t n c (got x rest) r old new =
     × (new ≡ filled typeWidth old (c .ty .0) (typeRows x (c .ty .0)))
 TypeReads s t n c (stop x rest) r old new = (r ≡ Refused (refusalAt (length s) x rest)) × (beyond typeWidth new ≡ beyond typeWidth old)
 
--- ---- an arrow that was read
-
--- the words of the records of an arrow: its source's, then its target's
-abbrev pub arrowRows : Arrow → (before : ℕ) → List (List ℕ)
-arrowRows a m = map typeWords (typeRecords (a .source) m ++ typeRecords (a .target) (m + typeWeight (a .source)))
-
-abbrev pub ArrowReads : (source tokens : List ℕ) → (n : ℕ) → Cursor → Parsed Arrow → ArrowAnswer → (old new : List ℕ) → Type 0
-ArrowReads s t n c (got a rest) r old new =
-    (d : Cursor)
-    × (r ≡ ReadArrow (record { 0 = typeNo (a .source) (c .ty .0) }) (record { 0 = typeNo (a .target) (c .ty .0 + typeWeight (a .source)) }) d)
-    × Reached s t n c d rest 0 (typeWeight (a .source) + typeWeight (a .target))
-    × (new ≡ filled typeWidth old (c .ty .0) (arrowRows a (c .ty .0)))
-ArrowReads s t n c (stop x rest) r old new = (r ≡ NoArrow (refusalAt (length s) x rest)) × (beyond typeWidth new ≡ beyond typeWidth old)
-
--- an arrow that does not stand there has absent types
-abbrev pub orAbsent : Parsed (Option Arrow) → Parsed Arrow
-orAbsent (got a rest) = got (arrowOr a) rest
-orAbsent (stop x rest) = stop x rest
-
 -- ---- on the way
-
--- an arrow, once its target is read
-abbrev pub arrowTo : TypeNo → TypeAnswer → ArrowAnswer
-arrowTo l (Read r c) = ReadArrow l r c
-arrowTo l (Refused x) = NoArrow x
 
 -- the record of a type; for a name, start and length stand in left and right
 abbrev pub recordBy : TypeInner → TypeRecord

@@ -1,4 +1,4 @@
-// Types: the Rust's `parse_type`, `parse_type_atom` and `parse_arrow`, over a lent table of types.
+// Types: the Rust's `parse_type` and `parse_type_atom`, over a lent table of types.
 ghost use mathlib.Core.Path.{_≡_};
 ghost use mathlib.Core.List.{List};
 ghost use Prim.Native.Nat.{ℕ, _≤_};
@@ -11,8 +11,8 @@ ghost use Rattle.checks.specs.Checks.{powerVerdict, checksOf};
 ghost use Rattle.checks.specs.Literals.{spanText};
 ghost use Rattle.cursor.specs.Tokens.{tokenOf, tokensLeft};
 ghost use Rattle.cursor.specs.Cursor.{nextNumber, Ready};
-ghost use Rattle.grammar.specs.Grammar.{type, atom, arrow, perhapsArrow};
-ghost use Rattle.types.specs.Answers.{recordBy, finished, powerHead, HeadAt, HeadReads, closed, operatorAt, joined, joinedTable, TypeReads, arrowTo, orAbsent, ArrowReads};
+ghost use Rattle.grammar.specs.Grammar.{type, atom};
+ghost use Rattle.types.specs.Answers.{recordBy, finished, powerHead, HeadAt, HeadReads, closed, operatorAt, joined, joinedTable, TypeReads};
 use checks::Fault;
 use checks::PowerVerdict;
 use cursor::Ahead;
@@ -24,7 +24,6 @@ use records::TokenRecord;
 use records::TypeRecord;
 use records::kinds::TokenKind;
 use records::kinds::TypeKind;
-use records::limits::Limits;
 use records::numbers::ByteOffset;
 use records::numbers::TypeNo;
 
@@ -41,12 +40,6 @@ pub enum TypeInner {
 // A type that was read, 0 if it is absent, and the cursor behind it; or a refusal.
 pub enum TypeAnswer {
     Read(TypeNo, Cursor),
-    Refused(ParseRefusal),
-}
-
-// The two types of an arrow and the cursor behind it; or a refusal.
-pub enum ArrowAnswer {
-    Read(TypeNo, TypeNo, Cursor),
     Refused(ParseRefusal),
 }
 
@@ -293,56 +286,4 @@ pub fn parse_type(
         turns += 1;
     }
     p
-}
-
-// The target of an arrow, behind its source.
-fn arrow_to(from: TypeNo, p: TypeAnswer) -> ArrowAnswer
-    ensures { λ r. ⌜ r ≡ arrowTo from p ⌝ }
-{
-    match p {
-        TypeAnswer::Read(to, c) => ArrowAnswer::Read(from, to, c),
-        TypeAnswer::Refused(x) => ArrowAnswer::Refused(x),
-    }
-}
-
-// An arrow: a type, `->` and a type.
-pub fn parse_arrow(
-    source: &[u8],
-    tokens: &[u32],
-    count: u32,
-    types: &mut [u32],
-    c: Cursor,
-) -> ArrowAnswer
-    requires { ⌜ length (now source) ≤ sourceLimit ⌝ }
-    ensures { λ r. ⌜ ((jets : List ℕ) → Ready count c → ArrowReads (now (source .entry)) (now (tokens .entry)) count c (arrow (checksOf jets) (tokensLeft (now (source .entry)) (now (tokens .entry)) count (c .token .0))) r (now (types .entry)) (now (types .exit))) ⌝ }
-{
-    match parse_type(source, tokens, count, types, c, Limits::DEPTH) {
-        TypeAnswer::Refused(x) => ArrowAnswer::Refused(x),
-        TypeAnswer::Read(from, d) => {
-            match cursor::expect(source, tokens, count, TokenKind::ARROW, d) {
-                Expected::Refused(x) => ArrowAnswer::Refused(x),
-                Expected::Passed(f) => {
-                    let p = parse_type(source, tokens, count, types, f, Limits::DEPTH);
-                    arrow_to(from, p)
-                }
-            }
-        }
-    }
-}
-
-// Perhaps `:` and an arrow; without them both types are absent.
-pub fn parse_optional_arrow(
-    source: &[u8],
-    tokens: &[u32],
-    count: u32,
-    types: &mut [u32],
-    c: Cursor,
-) -> ArrowAnswer
-    requires { ⌜ length (now source) ≤ sourceLimit ⌝ }
-    ensures { λ r. ⌜ ((jets : List ℕ) → Ready count c → ArrowReads (now (source .entry)) (now (tokens .entry)) count c (orAbsent (perhapsArrow (checksOf jets) (tokensLeft (now (source .entry)) (now (tokens .entry)) count (c .token .0)))) r (now (types .entry)) (now (types .exit))) ⌝ }
-{
-    match cursor::expect(source, tokens, count, TokenKind::COLON, c) {
-        Expected::Passed(d) => parse_arrow(source, tokens, count, types, d),
-        Expected::Refused(_) => ArrowAnswer::Read(TypeNo(0), TypeNo(0), c),
-    }
 }

@@ -4,9 +4,9 @@ use mathlib.Core.Path.{_≡_}
 use Rattle.records.specs.declared.refusals.Refusal.{Refusal}
 use Rattle.lex.specs.Tokens.{rowOfLex, countOf}
 use Rattle.lex.specs.declared.LexAnswer.{LexAnswer}
-use Rattle.ast.specs.Parsing.{rowOfParse, countsOfParse}
-use Rattle.ast.specs.declared.Counts.{Counts}
-use Rattle.ast.specs.declared.ParseAnswer.{ParseAnswer}
+use Rattle.ends.specs.Rows.{rowOfParse, countsOfParse}
+use Rattle.ends.specs.declared.Counts.{Counts}
+use Rattle.ends.specs.declared.ParseAnswer.{ParseAnswer}
 use Rattle.zaghdurem.specs.declared.LexedRow.{LexedRow}
 use Rattle.zaghdurem.specs.declared.ParsedRow.{ParsedRow}
 use Rattle.zaghdurem.specs.Rows.{lexedRow, parsedRow}

@@ -1,8 +1,8 @@
 -- What a host is handed for an answer that is an enum: a struct of numbers.
 use Rattle.lex.specs.Tokens.{rowOfLex, countOf}
 use Rattle.lex.specs.declared.LexAnswer.{LexAnswer}
-use Rattle.ast.specs.Parsing.{rowOfParse, countsOfParse}
-use Rattle.ast.specs.declared.ParseAnswer.{ParseAnswer}
+use Rattle.ends.specs.Rows.{rowOfParse, countsOfParse}
+use Rattle.ends.specs.declared.ParseAnswer.{ParseAnswer}
 use Rattle.zaghdurem.specs.declared.LexedRow.{LexedRow}
 use Rattle.zaghdurem.specs.declared.ParsedRow.{ParsedRow}
 

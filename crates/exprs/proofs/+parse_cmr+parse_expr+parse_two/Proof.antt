@@ -21,7 +21,7 @@ use Rattle.exprs.proofs.binary.Reads as binary-reads
 use Rattle.exprs.proofs.close.Reads as close-reads
 use Rattle.exprs.proofs.close_cmr.Reads as close-cmr-reads
 use Rattle.exprs.proofs.cmr_head.Reads as cmr-head-reads
-use Rattle.exprs.proofs.expr_head.Reads as expr-head-reads
+use Rattle.heads.proofs.expr_head.Reads as expr-head-reads
 use Rattle.exprs.proofs.finish.Reads as finish-reads
 use Rattle.exprs.proofs.unary.Reads as unary-reads
 use Rattle.exprs.specs.Answers.{TwoReads}
