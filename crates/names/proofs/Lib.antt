@@ -1,0 +1,10 @@
+pub mod Lists
+pub mod Laws
+pub mod Parsed
+pub mod Texts
+pub mod Steps
+pub mod Reading
+pub mod OneMore
+pub mod Entering
+pub mod Loop
+pub mod Examples

@@ -1,0 +1,4 @@
+pub mod Names
+pub mod Uses
+pub mod Held
+pub mod Code
