@@ -1,0 +1,14 @@
+pub mod Basics
+pub mod Fuel
+pub mod Machine
+pub mod Count
+pub mod Numbered
+pub mod Parts
+pub mod Standing
+pub mod Ranks
+pub mod Sorted
+pub mod Referring
+pub mod Loops
+pub mod Demand
+pub mod Sizes
+pub mod Examples

@@ -1,0 +1,5 @@
+pub mod Walk
+pub mod Trees
+pub mod Nodes
+pub mod Stands
+pub mod Demand
