@@ -1,0 +1,9 @@
+pub mod Steps
+pub mod Names
+pub mod Tables
+pub mod Holds
+pub mod Bridge
+pub mod Turning
+pub mod Running
+pub mod Parents
+pub mod Ends

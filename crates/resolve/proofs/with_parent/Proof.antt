@@ -1,0 +1,10 @@
+-- `resolve::with_parent` meets its contract: field by field. Assumes nothing.
+use borrow.Author.Needs.{needs}
+use Rattle.resolve.proofs.with_parent.Statement.{statement}
+use Rattle.resolve.proofs.with_parent.Tie as tie
+
+returns : tie.Need-returns
+returns c = cc
+
+pub with-parent-spec : {M : Type 1} → statement M
+with-parent-spec = tie.close (tie.spec (λ c κs. search needs) returns)
