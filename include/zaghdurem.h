@@ -102,6 +102,36 @@ ZaghduremParsed zaghdurem_parse_line_vector(const uint8_t *source, size_t source
                                             uint32_t *expressions, size_t expressions_len, uint32_t *types,
                                             size_t types_len);
 
+/* What reading a source gives: no refusal and how many records each table has, or a refusal, its place and the number beside
+ * it, and no records. Work has no records. */
+typedef struct {
+    uint32_t no;
+    uint32_t value;
+    size_t place;
+    uint32_t tokens;
+    uint32_t lines;
+    uint32_t expressions;
+    uint32_t types;
+    uint32_t names;
+    uint32_t nodes;
+    uint32_t errors;
+} ZaghduremInner;
+
+/* Reads a source into eight lent tables: the Rust's `parse_inner`, steps 1 and 2 (definitions `innerAll` and `tablesAfter` of
+ * crates/reader). Tokens, lines, expressions and types are those of `zaghdurem_parse_line_vector`. A name has four words:
+ * start, length, expression, node; names stand in the order of their first legal lines. A node has eight: kind, start, name
+ * number (0 but for the outermost node of a name), left, right, span start, span length, in-degree; children stand before
+ * parents. An error has four: kind, start, name start, name length; they are the errors of lines, in line order. The words of
+ * work are used on the way and are zero afterwards.
+ * Refusals are those of `zaghdurem_parse_line_vector`, with refusal 1 for any of the eight tables: then no word of any is
+ * changed. Refusals 2 to 13 set the first 1,024 records of every table to zero; otherwise unused records are zero. Words past
+ * the first 1,024 records never change. */
+ZaghduremInner zaghdurem_parse_inner(const uint8_t *source, size_t source_len, const uint8_t *jets, size_t jets_len,
+                                     uint32_t *tokens, size_t tokens_len, uint32_t *lines, size_t lines_len,
+                                     uint32_t *expressions, size_t expressions_len, uint32_t *types, size_t types_len,
+                                     uint32_t *names, size_t names_len, uint32_t *nodes, size_t nodes_len,
+                                     uint32_t *errors, size_t errors_len, uint32_t *work, size_t work_len);
+
 /* Byte `index`, counted from 0, of the literal at a span of the source (definition `literalByte`), a number below 256: its
  * bits go first bit highest, four for a hex digit, zeros after the last. 0 past the last byte, and for a span that is no
  * literal. A literal is a span inside the source whose whole text is `0b` and binary digits or `0x` and lower-case hex

@@ -33,6 +33,18 @@ static void parse(const char *bytes, const char *jets) {
            (unsigned)l[3], (unsigned)l[4], (unsigned)e[0], (unsigned)e[1], (unsigned)y[0], (unsigned)y[3]);
 }
 
+static void inner(const char *bytes) {
+    static uint32_t t[3072], l[5120], e[6144], y[4096], n[4096], x[8192], r[4096], w[4096];
+    ZaghduremInner p = zaghdurem_parse_inner((const uint8_t *)bytes, strlen(bytes), (const uint8_t *)"", 0, t, 3072, l, 5120,
+                                             e, 6144, y, 4096, n, 4096, x, 8192, r, 4096, w, 4096);
+    printf("inner %u %zu %u, %u %u %u %u, %u %u %u\n", (unsigned)p.no, p.place, (unsigned)p.value, (unsigned)p.tokens,
+           (unsigned)p.lines, (unsigned)p.expressions, (unsigned)p.types, (unsigned)p.names, (unsigned)p.nodes,
+           (unsigned)p.errors);
+    printf("name %u %u %u %u, node %u %u %u %u %u %u %u %u, error %u %u\n", (unsigned)n[0], (unsigned)n[1], (unsigned)n[2],
+           (unsigned)n[3], (unsigned)x[0], (unsigned)x[1], (unsigned)x[2], (unsigned)x[3], (unsigned)x[4], (unsigned)x[5],
+           (unsigned)x[6], (unsigned)x[7], (unsigned)r[0], (unsigned)r[1]);
+}
+
 static void byte(const char *bytes, uint32_t start, uint32_t len, uint32_t index) {
     unsigned b = (unsigned)zaghdurem_literal_byte((const uint8_t *)bytes, strlen(bytes), start, len, index);
     printf("byte %u\n", b);
@@ -54,6 +66,8 @@ int main(void) {
     lex("a->b");
     parse("main := comp jet_low iden : 2^8 -> 1", "high\nlow");
     parse("a := const 0b111", "");
+    inner("main := pair a iden\na := unit\n_ := unit");
+    inner("a := a )");
     byte("const 0x9f4", 6, 5, 1);
     byte("const 0x9f4", 6, 5, 2);
     printf("word %u %u %u\n", (unsigned)zaghdurem_word(table, 7, 3, 2, 0), (unsigned)zaghdurem_word(table, 7, 3, 3, 1),

@@ -8,7 +8,8 @@ ghost use Rattle.records.specs.Limits.{limits};
 ghost use Rattle.tables.specs.Tables.{wordAt};
 ghost use Rattle.text.specs.Check.{checkText, rowOfText};
 ghost use Rattle.text.specs.Place.{placeOf};
-ghost use Rattle.zaghdurem.specs.Rows.{lexedRow, parsedRow};
+ghost use Rattle.reader.specs.Inner.{eight, innerAll, tablesAfter as innerTables};
+ghost use Rattle.zaghdurem.specs.Rows.{lexedRow, parsedRow, innerRow};
 use records::Span;
 use records::limits::Limits;
 use records::numbers::ByteOffset;
@@ -109,6 +110,67 @@ pub extern "C" fn zaghdurem_parse_line_vector(
         lines: counts.lines,
         exprs: counts.exprs,
         types: counts.types,
+    }
+}
+
+// A row of the table of refusals, and how many records there are of each table.
+#[repr(C)]
+pub struct InnerRow {
+    pub no: u32,
+    pub value: u32,
+    pub place: usize,
+    pub tokens: u32,
+    pub lines: u32,
+    pub exprs: u32,
+    pub types: u32,
+    pub names: u32,
+    pub nodes: u32,
+    pub errors: u32,
+}
+
+// Reads a source into eight lent tables; the errors are those of lines.
+#[no_mangle]
+pub extern "C" fn zaghdurem_parse_inner(
+    source: &[u8],
+    jets: &[u8],
+    tokens: &mut [u32],
+    lines: &mut [u32],
+    exprs: &mut [u32],
+    types: &mut [u32],
+    names: &mut [u32],
+    nodes: &mut [u32],
+    errors: &mut [u32],
+    work: &mut [u32],
+) -> InnerRow
+    ensures answer { λ r. ⌜ r ≡ innerRow (innerAll (now (source .entry)) (now (jets .entry)) (eight (now (tokens .entry)) (now (lines .entry)) (now (exprs .entry)) (now (types .entry)) (now (names .entry)) (now (nodes .entry)) (now (errors .entry)) (now (work .entry)))) ⌝ }
+    ensures tables { λ _. ⌜ eight (now (tokens .exit)) (now (lines .exit)) (now (exprs .exit)) (now (types .exit)) (now (names .exit)) (now (nodes .exit)) (now (errors .exit)) (now (work .exit)) ≡ innerTables (now (source .entry)) (now (jets .entry)) (eight (now (tokens .entry)) (now (lines .entry)) (now (exprs .entry)) (now (types .entry)) (now (names .entry)) (now (nodes .entry)) (now (errors .entry)) (now (work .entry))) ⌝ }
+{
+    let answer = reader::parse_inner(
+        source,
+        jets,
+        tokens,
+        lines,
+        exprs,
+        types,
+        names,
+        nodes,
+        errors,
+        work,
+    );
+    let refusal = answer.row();
+    let counts = answer.counts();
+    let parsed = counts.parsed;
+    InnerRow {
+        no: refusal.no,
+        value: refusal.value,
+        place: refusal.place,
+        tokens: parsed.tokens,
+        lines: parsed.lines,
+        exprs: parsed.exprs,
+        types: parsed.types,
+        names: counts.names,
+        nodes: counts.nodes,
+        errors: counts.errors,
     }
 }
 

@@ -1,0 +1,173 @@
+-- The answer for any source, any jet list and any tables, by the tests that came before it.
+use Prim.Native.Nat.{ℕ, _*_, _≤_}
+use mathlib.Core.Bool.{Bool, true, false, _||_}
+use mathlib.Core.Path.{_≡_, refl, sym, ap, subst, _∙_}
+use mathlib.Core.List.{List, []}
+use native.Mathlib.Omega.{arith}
+use lib.Dec.{ltb}
+use lib.ListN.{length}
+use borrow.Author.Tests.{ltb-false}
+use Rattle.records.specs.Base.{if_then_else_}
+use Rattle.records.specs.Limits.{recordLimit, lineWidth, exprWidth, nameWidth, nodeWidth, errorWidth, workWidth}
+use Rattle.tables.specs.Tables.{tableOf}
+use Rattle.lex.specs.Tokens.{Token, lexing, lexAll}
+use Rattle.lex.specs.declared.LexAnswer.{LexAnswer}
+use Rattle.lex.specs.declared.LexAnswer.the-variants.{ShortTable, LongSource, NotUtf8, Ended}
+use Rattle.lex.specs.declared.LexEnd.{LexEnd}
+use Rattle.lex.specs.declared.LexEnd.the-variants.{Tokens, NoToken, TooManyTokens}
+use Rattle.lex.proofs.Tiling.{tiling, tokens-lie, tokens-few}
+use Rattle.checks.specs.Checks.{checksOf}
+use Rattle.grammar.specs.Tree.{Line}
+use Rattle.grammar.specs.Rule.{Parsed, got, stop}
+use Rattle.grammar.specs.Grammar.{lines}
+use Rattle.ast.specs.Parsing as ast
+use Rattle.ast.specs.Parsing.{tables, parsing, linesIn, tokensIn, lineRows, exprRowsOf, endBy, parsedBy}
+use Rattle.ends.specs.declared.Counts.{Counts}
+use Rattle.ends.specs.declared.ParseAnswer.{ParseAnswer}
+use Rattle.ends.specs.declared.ParseAnswer.the-variants.{NotLexed, Parsed as WasParsed}
+use Rattle.ends.specs.declared.ParseEnd.{ParseEnd}
+use Rattle.ends.specs.declared.ParseEnd.the-variants.{Lines, Refused as NotParsed}
+use Rattle.ast.proofs.Whole.{has-room, lex-ended}
+use Rattle.names.specs.Held.{HeldLines}
+use Rattle.names.proofs.Parsed.{parsed-held}
+use Rattle.names.specs.Names.{namesOf, errorsFrom, errorRows}
+use Rattle.names.specs.Held.{Held}
+use Rattle.walk.specs.Walk.{final, namesTo}
+use Rattle.walk.specs.Nodes.{walked, nodeRows, nodeRowsFrom, namedRows, namedRowsFrom}
+use Rattle.reader.specs.declared.AfterParse.{AfterParse}
+use Rattle.reader.specs.declared.AfterParse.the-variants.{Untouched, Cleared, Parsed as Rest}
+use Rattle.reader.specs.declared.InnerCounts.{InnerCounts}
+use Rattle.reader.specs.declared.InnerAnswer.{InnerAnswer}
+use Rattle.reader.specs.declared.InnerAnswer.the-variants.{Read, Refused}
+use Rattle.reader.specs.Inner.{Tables, eight, shortBy, holding, innerBy, leftBy, innerAll, tablesAfter, nextBy, Resolves}
+
+-- ---- room
+
+or-false : (p q : Bool) → p || q ≡ false → (p ≡ false) × (q ≡ false)
+or-false false q e = (refl, e)
+or-false true q e = absurd (let z : _≡_ {A = ℕ} 0 1 = cc in omega arith)
+
+-- tables that are not too short
+pub roomy : (a b c d : ℕ) → shortBy a b c d ≡ false → (recordLimit * nameWidth ≤ a) × (recordLimit * nodeWidth ≤ b) × (recordLimit * errorWidth ≤ c) × (recordLimit * workWidth ≤ d)
+unfolding shortBy
+roomy a b c d e =
+    let x = or-false ((ltb a (recordLimit * nameWidth) || ltb b (recordLimit * nodeWidth)) || ltb c (recordLimit * errorWidth)) (ltb d (recordLimit * workWidth)) e in
+    let y = or-false (ltb a (recordLimit * nameWidth) || ltb b (recordLimit * nodeWidth)) (ltb c (recordLimit * errorWidth)) (x .0) in
+    let z = or-false (ltb a (recordLimit * nameWidth)) (ltb b (recordLimit * nodeWidth)) (y .0) in
+    (ltb-false a (recordLimit * nameWidth) (z .0), ltb-false b (recordLimit * nodeWidth) (z .1), ltb-false c (recordLimit * errorWidth) (y .1), ltb-false d (recordLimit * workWidth) (x .1))
+
+-- ---- the whole
+
+module _ (source jets ts ls es ty ns xs rs ws : List ℕ) where
+  abbrev old : Tables
+  old = eight ts ls es ty ns xs rs ws
+
+  abbrev four : ast.Tables
+  four = tables ts ls es ty
+
+  pub too-short : shortBy (length ns) (length xs) (length rs) (length ws) ≡ true → (Refused (NotLexed ShortTable) ≡ innerAll source jets old) × (eight ts ls es ty ns xs rs ws ≡ tablesAfter source jets old)
+  unfolding innerAll tablesAfter
+  too-short e = (rw e, rw e)
+
+  module _ (room : shortBy (length ns) (length xs) (length rs) (length ws) ≡ false) where
+    -- an answer by the lexer's, and the tables by it
+    settled : (a : LexAnswer) (r : InnerAnswer) (new : Tables) → ast.lexAnswer source four ≡ a → r ≡ innerBy source jets (parsedBy source jets a) → new ≡ leftBy source jets old a → (r ≡ innerAll source jets old) × (new ≡ tablesAfter source jets old)
+    unfolding innerAll tablesAfter
+    settled a r new e f g = (f ∙ rw (room, e), g ∙ rw (room, e))
+
+    -- what parsing answered and left
+    data Seen : ParseAnswer → ast.Tables → Type 0 where
+      short : ast.lexAnswer source four ≡ ShortTable → Seen (NotLexed ShortTable) four
+      refused : {a : ParseAnswer} (l : LexAnswer) → ast.lexAnswer source four ≡ l → nextBy a ≡ Cleared → Refused a ≡ innerBy source jets (parsedBy source jets l) → holding [] [] old ≡ leftBy source jets old l → Seen a (ast.holding [] [] four)
+      parsed : (m : ℕ) (us : List Line) (rest : List Token) → ast.lexAnswer source four ≡ Ended (Tokens m) → parsing source jets ≡ got us rest → Seen (WasParsed (Lines (ast.countsOf (lexing source .tokens) us))) (ast.holding (lexing source .tokens) us four)
+
+    seen : (a : ParseAnswer) (new : ast.Tables) → a ≡ ast.parseAll source jets four → new ≡ ast.tablesAfter source jets four → Seen a new
+    seen a new e f = subst (λ (t : ast.Tables). Seen a t) (sym f) (subst (λ (x : ParseAnswer). Seen x (ast.tablesAfter source jets four)) (sym e) (unfold ast.parseAll ast.tablesAfter in go (ast.lexAnswer source four) refl))
+      where
+        ended : (m : ℕ) → ast.lexAnswer source four ≡ Ended (Tokens m) → (p : Parsed (List Line)) → parsing source jets ≡ p → Seen (WasParsed (endBy (length source) (lexing source .tokens) p)) (ast.holding (tokensIn (lexing source .tokens) p) (linesIn p) four)
+        ended m e (got us rest) q = parsed m us rest e q
+        ended m e (stop x rest) q = refused {a = WasParsed (endBy (length source) (lexing source .tokens) (stop x rest))} (Ended (Tokens m)) e refl (rw q) (rw q)
+
+        go : (l : LexAnswer) → ast.lexAnswer source four ≡ l → Seen (parsedBy source jets l) (ast.leftBy source jets four l)
+        go ShortTable e = short e
+        go LongSource e = refused {a = NotLexed LongSource} LongSource e refl refl refl
+        go (NotUtf8 at) e = refused {a = NotLexed (NotUtf8 at)} (NotUtf8 at) e refl refl refl
+        go (Ended (NoToken at)) e = refused {a = NotLexed (Ended (NoToken at))} (Ended (NoToken at)) e refl refl refl
+        go (Ended (TooManyTokens at)) e = refused {a = NotLexed (Ended (TooManyTokens at))} (Ended (TooManyTokens at)) e refl refl refl
+        go (Ended (Tokens m)) e = ended m e (parsing source jets) refl
+
+    module _ (a : ParseAnswer) (x : AfterParse) (ts' ls' es' ty' : List ℕ) (ea : a ≡ ast.parseAll source jets four) (et : tables ts' ls' es' ty' ≡ ast.tablesAfter source jets four) (ex : x ≡ nextBy a) where
+      new : ast.Tables
+      new = tables ts' ls' es' ty'
+
+      abbrev eight-with : ast.Tables → (names nodes errors work : List ℕ) → Tables
+      eight-with t ns' xs' rs' ws' = record { parsed = t; names = ns'; nodes = xs'; errors = rs'; work = ws' }
+
+      pub untouched : x ≡ Untouched → (Refused a ≡ innerAll source jets old) × (eight ts' ls' es' ty' ns xs rs ws ≡ tablesAfter source jets old)
+      untouched u = go a (tables ts' ls' es' ty') (seen a (tables ts' ls' es' ty') ea et) (sym ex ∙ u)
+        where
+          go : (a : ParseAnswer) (t : ast.Tables) → Seen a t → nextBy a ≡ Untouched → (Refused a ≡ innerAll source jets old) × (eight-with t ns xs rs ws ≡ tablesAfter source jets old)
+          go a t (short e) q = settled ShortTable (Refused (NotLexed ShortTable)) old e refl refl
+          go a t (refused l e c f g) q = absurd (let z : _≡_ {A = ℕ} 0 1 = cc in omega arith)
+          go a t (parsed m us rest e p) q = absurd (let z : _≡_ {A = ℕ} 0 1 = cc in omega arith)
+
+      -- no line has no name, no node and no error
+      none-held : holding [] [] old ≡ eight-with (ast.holding [] [] four) (tableOf nameWidth [] ns) (tableOf nodeWidth [] xs) (tableOf errorWidth [] rs) (tableOf workWidth [] ws)
+      unfolding namedRows namedRowsFrom walked final namesTo namesOf nodeRows nodeRowsFrom errorRows errorsFrom
+      none-held = refl
+
+      pub cleared : (ns' xs' rs' ws' : List ℕ) → x ≡ Cleared → ns' ≡ tableOf nameWidth [] ns → xs' ≡ tableOf nodeWidth [] xs → rs' ≡ tableOf errorWidth [] rs → ws' ≡ tableOf workWidth [] ws
+          → (Refused a ≡ innerAll source jets old) × (eight ts' ls' es' ty' ns' xs' rs' ws' ≡ tablesAfter source jets old)
+      cleared ns' xs' rs' ws' u en ex' er ew = go a (tables ts' ls' es' ty') (seen a (tables ts' ls' es' ty') ea et) (sym ex ∙ u)
+        where
+          go : (a : ParseAnswer) (t : ast.Tables) → Seen a t → nextBy a ≡ Cleared → (Refused a ≡ innerAll source jets old) × (eight-with t ns' xs' rs' ws' ≡ tablesAfter source jets old)
+          go a t (short e) q = absurd (let z : _≡_ {A = ℕ} 0 1 = cc in omega arith)
+          go a t (refused l e c f g) q = settled l (Refused a) (eight-with (ast.holding [] [] four) ns' xs' rs' ws') e f (rw (en, ex', er, ew) (sym none-held ∙ g))
+          go a t (parsed m us rest e p) q = absurd (let z : _≡_ {A = ℕ} 0 1 = cc in omega arith)
+
+      -- the lines of a source that was parsed
+      abbrev found : List Line
+      found = linesIn (parsing source jets)
+
+      module _ (n : Counts) (u : x ≡ Rest n) where
+        held : HeldLines source ls' es' (n .lines) found
+        held = go a (tables ts' ls' es' ty') refl (seen a (tables ts' ls' es' ty') ea et) (sym ex ∙ u)
+          where
+            go : (a : ParseAnswer) (t : ast.Tables) → t ≡ tables ts' ls' es' ty' → Seen a t → nextBy a ≡ Rest n → HeldLines source ls' es' (n .lines) found
+            go a t k (short e) q = absurd (let z : _≡_ {A = ℕ} 0 1 = cc in omega arith)
+            go a t k (refused l e c f g) q = absurd (let z : _≡_ {A = ℕ} 0 1 = cc in omega arith)
+            go a t k (parsed m us rest e p) q = at
+              where
+                lexed : lexing source .answer ≡ Tokens m
+                lexed = ended (ast.short four) refl
+                  where
+                    ended : (b : Bool) → ast.short four ≡ b → lexing source .answer ≡ Tokens m
+                    ended true h = let f : ShortTable ≡ Ended (Tokens m) = rw h at e in absurd (let z : _≡_ {A = ℕ} 0 1 = cc in omega arith)
+                    ended false h = lex-ended source ts (has-room (length ts) (length ls) (length es) (length ty) h .0) (Tokens m) (rw h at e) .0
+
+                at : HeldLines source ls' es' (n .lines) found
+                at =
+                    record {
+                      old = ls;
+                      table = ap (λ (t : ast.Tables). t .lines) (sym k) ∙ rw p;
+                      counted = let c : n ≡ ast.countsOf (lexing source .tokens) us = cc in rw (c, p);
+                      held =
+                          subst (λ (w : List ℕ). Held source w found) (ap (λ (t : ast.Tables). t .exprs) k)
+                          (rw p (parsed-held (checksOf jets) source (lexing source .tokens) us rest p (tokens-lie source m lexed .1) (omega (arith, tiling source m lexed .1, tokens-few source m lexed)) es));
+                    }
+
+        pub read : (r : InnerCounts) (ns' xs' rs' ws' : List ℕ) → (HeldLines source ls' es' (n .lines) found → Resolves found n r ns ns' xs xs' rs rs' ws ws')
+            → (Read r ≡ innerAll source jets old) × (eight ts' ls' es' ty' ns' xs' rs' ws' ≡ tablesAfter source jets old)
+        read r ns' xs' rs' ws' f = go a (tables ts' ls' es' ty') (seen a (tables ts' ls' es' ty') ea et) (sym ex ∙ u)
+          where
+            d : Resolves found n r ns ns' xs xs' rs rs' ws ws'
+            d = f held
+
+            go : (a : ParseAnswer) (t : ast.Tables) → Seen a t → nextBy a ≡ Rest n → (Read r ≡ innerAll source jets old) × (eight-with t ns' xs' rs' ws' ≡ tablesAfter source jets old)
+            go a t (short e) q = absurd (let z : _≡_ {A = ℕ} 0 1 = cc in omega arith)
+            go a t (refused l e c g h) q = absurd (let z : _≡_ {A = ℕ} 0 1 = cc in omega arith)
+            go a t (parsed m us rest e p) q =
+                let c : n ≡ ast.countsOf (lexing source .tokens) us = cc in
+                settled (Ended (Tokens m)) (Read r) (eight-with (ast.holding (lexing source .tokens) us four) ns' xs' rs' ws') e
+                (rw p (ap Read (d .0 ∙ rw (c, p))))
+                (rw (d .1, d .2, d .3, d .4, p))

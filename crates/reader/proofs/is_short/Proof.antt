@@ -1,0 +1,15 @@
+-- `reader::is_short` meets its contract.
+use Rattle.reader.specs.Inner.{shortBy}
+use mathlib.Core.Path.{refl}
+use Rattle.reader.proofs.is_short.Statement.{statement}
+use Rattle.reader.proofs.is_short.Tie as tie
+
+returns : tie.Need-returns
+unfolding shortBy
+returns c = refl
+
+pub is-short-spec : {M : Type 1} → statement M
+is-short-spec =
+    tie.close
+    (tie.spec
+    returns)
