@@ -2,13 +2,14 @@
 //! words, made from the oracle's answers. The Rust recurses, so call these functions inside `oracle::with_stack`.
 
 mod records;
+mod resolved;
 mod sheet;
 #[cfg(test)]
 mod tests;
 
-pub use sheet::sheet;
+pub use sheet::{sheet, NODE_WORDS};
 
-use oracle::ast::Line;
+use oracle::ast::{Line, Type};
 use oracle::{Jets, Reading, Refusal, Token};
 
 use crate::depth::too_deep;
@@ -18,13 +19,13 @@ const SOURCE_LIMIT: usize = 32_768;
 const TOKEN_LIMIT: usize = 1_024;
 
 // the tables, in their order
-const TOKENS: usize = 0;
-const LINES: usize = 1;
-const EXPRESSIONS: usize = 2;
-const TYPES: usize = 3;
-const NAMES: usize = 4;
-const NODES: usize = 5;
-const ERRORS: usize = 6;
+pub(crate) const TOKENS: usize = 0;
+pub(crate) const LINES: usize = 1;
+pub(crate) const EXPRESSIONS: usize = 2;
+pub(crate) const TYPES: usize = 3;
+pub(crate) const NAMES: usize = 4;
+pub(crate) const NODES: usize = 5;
+pub(crate) const ERRORS: usize = 6;
 
 /// Words per record of each table.
 pub const WIDTHS: [usize; 7] = [3, 5, 6, 4, 4, 8, 4];
@@ -54,7 +55,7 @@ pub fn expected(source: &[u8], jets: &[u8]) -> Expected {
 pub fn expected_with(source: &[u8], jets: &Jets) -> Expected {
     let whole = |text: &str| oracle::read_with(text, jets);
     match read(source, whole, |reading| &reading.tokens) {
-        Ok(reading) => recorded(source, &reading),
+        Ok(reading) => recorded(source, &reading, Errors::All),
         Err(refusal) => refused_by(&refusal),
     }
 }
@@ -67,6 +68,29 @@ pub fn parsed_with(source: &[u8], jets: &Jets) -> (Expected, Vec<Line>) {
         Ok((tokens, lines)) => {
             let (records, _) = Records::of_lines(source, &tokens, &lines);
             (answer(records), lines)
+        }
+        Err(refusal) => (refused_by(&refusal), Vec::new()),
+    }
+}
+
+/// The types that the lines of a name give it, as the Rust keeps them for the name's node.
+#[derive(Clone, Debug, Default, PartialEq, Eq)]
+pub struct UserTypes {
+    pub source: Vec<Type>,
+    pub target: Vec<Type>,
+}
+
+/// What the resolver gives, with a jet list that serves many sources: the seven tables, of errors those of lines alone.
+/// The types of each name stand beside it, in the order of names; there are none if the source is refused.
+pub fn resolved_with(source: &[u8], jets: &Jets) -> (Expected, Vec<UserTypes>) {
+    let whole = |text: &str| oracle::read_with(text, jets);
+    match read(source, whole, |reading| &reading.tokens) {
+        Ok(reading) => {
+            let types = reading.names.iter().map(|name| UserTypes {
+                source: name.source_types.clone(),
+                target: name.target_types.clone(),
+            });
+            (recorded(source, &reading, Errors::OfLines), types.collect())
         }
         Err(refusal) => (refused_by(&refusal), Vec::new()),
     }
@@ -142,12 +166,22 @@ fn answer(records: Records) -> Expected {
     }
 }
 
+/// Which errors are recorded.
+#[derive(Clone, Copy, PartialEq, Eq)]
+enum Errors {
+    All,
+    OfLines,
+}
+
 /// The records of what is read.
-fn recorded(source: &[u8], reading: &Reading) -> Expected {
+fn recorded(source: &[u8], reading: &Reading, errors: Errors) -> Expected {
     let (mut records, expressions) = Records::of_lines(source, &reading.tokens, &reading.lines);
     let numbers = records.names(reading, &expressions);
     records.nodes(reading, &numbers);
-    records.errors(reading);
+    records.line_errors(reading);
+    if errors == Errors::All {
+        records.node_errors(reading);
+    }
     Expected {
         roots: reading.roots.iter().map(|root| root.name.clone()).collect(),
         dropped: reading.roots.iter().filter(|root| root.dropped).count(),

@@ -41,6 +41,22 @@ pub struct Parsed {
     pub types: u32,
 }
 
+/// A row of the refusal table, with the number of records of each table up to the errors. `no` is 0 if nothing was refused.
+#[repr(C)]
+#[derive(Clone, Copy, Debug, Default, PartialEq, Eq)]
+pub struct Inner {
+    pub no: u32,
+    pub value: u32,
+    pub place: usize,
+    pub tokens: u32,
+    pub lines: u32,
+    pub expressions: u32,
+    pub types: u32,
+    pub names: u32,
+    pub nodes: u32,
+    pub errors: u32,
+}
+
 /// The limits of a source, and the words of one record of each table.
 #[repr(C)]
 #[derive(Clone, Copy, Debug, PartialEq, Eq)]
@@ -88,6 +104,29 @@ extern "C" {
         types: *mut u32,
         types_len: usize,
     ) -> Parsed;
+
+    pub fn zaghdurem_parse_inner(
+        source: *const u8,
+        source_len: usize,
+        jets: *const u8,
+        jets_len: usize,
+        tokens: *mut u32,
+        tokens_len: usize,
+        lines: *mut u32,
+        lines_len: usize,
+        expressions: *mut u32,
+        expressions_len: usize,
+        types: *mut u32,
+        types_len: usize,
+        names: *mut u32,
+        names_len: usize,
+        nodes: *mut u32,
+        nodes_len: usize,
+        errors: *mut u32,
+        errors_len: usize,
+        work: *mut u32,
+        work_len: usize,
+    ) -> Inner;
 
     pub fn zaghdurem_literal_byte(
         source: *const u8,

@@ -1,47 +1,33 @@
 //! The parser, against the oracle's `parse_line_vector` and the limits of the rules page: each file's answer, every word of
 //! the four tables it is lent, and the bytes of its literals.
 
-mod buffer;
 mod depths;
 mod exact;
-mod grammatical;
+pub(crate) mod grammatical;
 mod inputs;
 mod jets;
+mod lent;
 mod limits;
 mod literals;
 mod numbers;
 mod reference;
-mod run;
 mod tokens;
 
-pub use run::{run, Done};
-
+use crate::buffer::Buffer;
 use crate::expected::{parsed_with, Expected};
 use crate::generate::Shape;
-use crate::library::{self, Parsed};
+use crate::library::{self, Parsed, Tables};
+use crate::list::List;
+use crate::run::{self, add_all, Counted, Done};
+use crate::scale::Scale;
 use crate::shrink::shrink;
 use crate::tally::{answer, Disagreement, Tally};
-use buffer::{Buffer, ROOM, TABLES, WORDS};
-use oracle::Jets;
+use inputs::PARTS;
+use lent::{ROOM, TABLES, WORDS};
 use reference::rule;
 
 /// How many answers there are: none refused, and the refusals 1 to 13.
 pub const ANSWERS: usize = 14;
-
-/// A jet list, as the library takes it and as the oracle does.
-struct List {
-    bytes: Vec<u8>,
-    known: Jets,
-}
-
-impl List {
-    fn new(bytes: &[u8]) -> Self {
-        List {
-            bytes: bytes.to_vec(),
-            known: Jets::new(bytes),
-        }
-    }
-}
 
 /// The comparison of parsers: what is counted, and the buffer that serves every call. It has to be used inside
 /// `oracle::with_stack`.
@@ -59,7 +45,7 @@ pub struct Comparison {
     pub files: [u64; Shape::ALL.len()],
     /// The shortest source that disagrees, with its jet list.
     found: Option<(Vec<u8>, Vec<u8>)>,
-    buffer: Buffer,
+    buffer: Buffer<TABLES>,
 }
 
 /// What is told about a call: its row, and the first word that is not as it must be, with where it stands.
@@ -91,10 +77,17 @@ impl Comparison {
 
     /// Compares one call: its row, and the whole buffer after it.
     fn call(&mut self, source: &[u8], list: &List, wanted: &Expected, lent: [usize; TABLES]) {
-        let row = library::parse_row(source, &list.bytes, self.buffer.lend(lent));
+        let [tokens, lines, expressions, types] = self.buffer.lend(lent);
+        let tables = Tables {
+            tokens,
+            lines,
+            expressions,
+            types,
+        };
+        let row = library::parse_row(source, &list.bytes, tables);
         let rule = rule(wanted, lent);
         self.answers[rule.row.no as usize] += 1;
-        let (is, must) = match self.buffer.first_difference(&rule) {
+        let (is, must) = match self.buffer.first_difference(rule.tables) {
             None => (None, None),
             Some((place, is, must)) => (Some((place.clone(), is)), Some((place, must))),
         };
@@ -127,9 +120,11 @@ impl Comparison {
             self.found = Some((source.to_vec(), list.bytes.clone()));
         }
     }
+}
 
+impl Counted for Comparison {
     /// Makes the shortest file on which the library disagrees smaller still, first its source and then its jet list.
-    pub fn shrink_disagreement(&mut self) {
+    fn shrink_disagreement(&mut self) {
         let Some((source, jets)) = self.found.take() else {
             return;
         };
@@ -140,8 +135,7 @@ impl Comparison {
         }
     }
 
-    /// Adds what another comparison counted.
-    pub fn add(&mut self, other: Comparison) {
+    fn add(&mut self, other: Comparison) {
         self.tally.add(other.tally);
         self.bytes.add(other.bytes);
         self.parsed += other.parsed;
@@ -150,10 +144,9 @@ impl Comparison {
     }
 }
 
-fn add_all(sums: &mut [u64], counts: &[u64]) {
-    for (sum, count) in sums.iter_mut().zip(counts) {
-        *sum += count;
-    }
+/// Runs every part on all cores, and gives them in their order.
+pub fn run(scale: &Scale) -> Vec<Done<Comparison>> {
+    run::run(&PARTS, scale, Comparison::default)
 }
 
 /// What the library disagrees on about one file, with tables of several lengths.

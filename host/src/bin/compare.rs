@@ -3,9 +3,11 @@
 use std::process::ExitCode;
 use std::time::Instant;
 use zaghdurem_host::generate::Shape;
+use zaghdurem_host::run::Counted;
 use zaghdurem_host::scale::Scale;
 use zaghdurem_host::tally::Tally;
 use zaghdurem_host::{lexer, parser, tables, text};
+use zaghdurem_host::{library, resolver};
 
 const USAGE: &str = "usage: compare [quick] [--seed N] [--count N]";
 
@@ -23,8 +25,8 @@ fn main() -> ExitCode {
     );
     let (total, reference, unmet) = compare_all(&scale);
     println!("total: {total}");
-    for no in &unmet {
-        println!("refusal {no} was never met by the parser, so nothing is said about it");
+    for what in &unmet {
+        println!("{what} was never met, so nothing is said about it");
     }
     if let Some(found) = &total.smallest {
         println!("the smallest disagreement of all:\n{found}");
@@ -38,16 +40,19 @@ fn main() -> ExitCode {
 
 /// Runs every part of the comparison. The first tally is the library's, the second that
 /// of the reference for positions, which is no answer of the library and stays out of the total. Beside
-/// them stand the numbers of the refusals that no parsed file met.
-fn compare_all(scale: &Scale) -> (Tally, Tally, Vec<usize>) {
+/// them stands what no file met.
+fn compare_all(scale: &Scale) -> (Tally, Tally, Vec<String>) {
     let mut total = Tally::default();
     total.add(report("limits", tables::compare_limits(scale)));
     total.add(report("words", tables::compare_words(scale)));
     let (texts, reference) = compare_texts(scale);
     total.add(texts);
     total.add(compare_lexers(scale));
-    let (parsers, unmet) = compare_parsers(scale);
+    let (parsers, mut unmet) = compare_parsers(scale);
     total.add(parsers);
+    let (resolvers, more_unmet) = compare_resolvers(scale);
+    total.add(resolvers);
+    unmet.extend(more_unmet);
     (total, reference, unmet)
 }
 
@@ -86,7 +91,7 @@ fn compare_lexers(scale: &Scale) -> Tally {
 
 /// The library's tally about lines and about bytes of literals, and the refusals that were not met. A
 /// comparison is one file with all its tables, or one byte.
-fn compare_parsers(scale: &Scale) -> (Tally, Vec<usize>) {
+fn compare_parsers(scale: &Scale) -> (Tally, Vec<String>) {
     let start = Instant::now();
     let mut total = parser::Comparison::default();
     for part in parser::run(scale) {
@@ -105,8 +110,36 @@ fn compare_parsers(scale: &Scale) -> (Tally, Vec<usize>) {
     println!("  time: {:.1} s", start.elapsed().as_secs_f64());
     print_answers("parsed", &total.answers);
     let unmet = (1..total.answers.len()).filter(|&no| total.answers[no] == 0);
-    let unmet = unmet.collect();
+    let unmet = unmet.map(|no| format!("parser: refusal {no}")).collect();
     total.tally.add(total.bytes);
+    (total.tally, unmet)
+}
+
+/// The library's tally about names, nodes and the types of names, and what was not met. A comparison is one file with all
+/// its tables, or the types of one name.
+fn compare_resolvers(scale: &Scale) -> (Tally, Vec<String>) {
+    let start = Instant::now();
+    let callee: resolver::Callee = &library::parse_inner_row;
+    let mut total = resolver::Comparison::new(callee);
+    for part in resolver::run(callee, scale) {
+        report(part.name, part.comparison.tally.clone());
+        if part.comparison.types.disagreements > 0 {
+            let name = format!("{}: types of names", part.name);
+            report(&name, part.comparison.types.clone());
+        }
+        print_files(&part.comparison.met.made);
+        println!("  {}", part.comparison.met);
+        total.add(part.comparison);
+    }
+    let files = total.met.files;
+    println!("resolver, all parts: {files} files, {}", total.tally);
+    println!("types of names, all parts: {}", total.types);
+    println!("  time: {:.1} s", start.elapsed().as_secs_f64());
+    println!("  {}", total.met);
+    println!("  nodes by kind: {}", total.met.node_kinds());
+    let unmet = total.met.unmet().into_iter();
+    let unmet = unmet.map(|what| format!("resolver: {what}")).collect();
+    total.tally.add(total.types);
     (total.tally, unmet)
 }
 

@@ -1,17 +1,14 @@
-//! The records of the seven tables, made from what the oracle reads.
+//! The records of tokens, lines, expressions and types, made from what the oracle reads.
 
-use std::collections::{HashMap, HashSet};
+use std::collections::HashMap;
 
 use oracle::ast::{AstCmr, ExprInner, Expression, Line, Type};
 use oracle::human_encoding::WitnessOrHole;
 use oracle::node::Inner;
-use oracle::{ErrorRow, Reading, Span, Token};
+use oracle::{Span, Token};
 
-use super::{word, ERRORS, EXPRESSIONS, LINES, NAMES, NODES, TOKENS, TYPES, WIDTHS};
+use super::{word, EXPRESSIONS, LINES, TOKENS, TYPES, WIDTHS};
 use crate::depth::kind::*;
-
-const MISSING: u32 = 1;
-const NOEXPR: u32 = 2;
 
 /// The tables of a source while they are filled.
 pub struct Records<'a> {
@@ -45,13 +42,13 @@ impl<'a> Records<'a> {
     }
 
     /// Puts a record behind the others of its table, and gives its number.
-    fn push(&mut self, table: usize, record: &[u32]) -> u32 {
+    pub(super) fn push(&mut self, table: usize, record: &[u32]) -> u32 {
         assert_eq!(record.len(), WIDTHS[table]);
         self.tables[table].extend(record);
         word(self.tables[table].len() / WIDTHS[table])
     }
 
-    fn text(&self, span: Span) -> &'a str {
+    pub(super) fn text(&self, span: Span) -> &'a str {
         let bytes = &self.source[span.start..span.start + span.len];
         std::str::from_utf8(bytes).expect("a span of tokens")
     }
@@ -224,87 +221,5 @@ impl<'a> Records<'a> {
             }
             Type::TwoTwoN(n) => assert_eq!(record, [6, 0, 0, *n]),
         }
-    }
-
-    /// The records of names; gives their numbers.
-    pub fn names(
-        &mut self,
-        reading: &'a Reading,
-        first: &HashMap<&str, u32>,
-    ) -> HashMap<&'a str, u32> {
-        let mut numbers = HashMap::new();
-        for name in &reading.names {
-            let expression = first.get(name.text.as_str()).copied().unwrap_or(0);
-            let (start, len) = (word(name.span.start), word(name.span.len));
-            let number = self.push(NAMES, &[start, len, expression, word(name.node)]);
-            assert_eq!(self.text(name.span), name.text);
-            assert!(numbers.insert(name.text.as_str(), number).is_none());
-        }
-        numbers
-    }
-
-    /// The records of nodes, by the numbers of names.
-    pub fn nodes(&mut self, reading: &Reading, numbers: &HashMap<&str, u32>) {
-        for node in &reading.nodes {
-            let name = node.name.as_deref().map_or(0, |name| numbers[name]);
-            self.push(
-                NODES,
-                &[
-                    node.kind,
-                    word(node.start),
-                    name,
-                    word(node.left),
-                    word(node.right),
-                    word(node.span.start),
-                    word(node.span.len),
-                    word(node.in_degree),
-                ],
-            );
-        }
-    }
-
-    /// First the errors of lines, in line order, each with that line's own name; then one for each missing or incomplete
-    /// node, in node order, with that node's span.
-    pub fn errors(&mut self, reading: &Reading) {
-        let mut lines = reading.lines.iter();
-        for error in &reading.line_errors {
-            let line = lines
-                .find(|line| match error.kind {
-                    1 => line.position.span().start == error.start,
-                    _ => {
-                        let expression = line.expression.as_ref();
-                        expression.is_some_and(|e| e.position.span().start == error.start)
-                    }
-                })
-                .expect("the line of an error");
-            assert_eq!(line.name.as_ref(), error.name);
-            let name = line.position.span();
-            self.error(error.kind, error.start, name);
-        }
-
-        let mut of_nodes = HashSet::new();
-        for node in &reading.nodes {
-            let kind = match node.kind {
-                MISSING => 3,
-                NOEXPR => 4,
-                _ => continue,
-            };
-            self.error(kind, node.start, node.span);
-            of_nodes.insert(ErrorRow {
-                kind,
-                start: node.start,
-                name: self.text(node.span).to_owned(),
-            });
-        }
-        // the Rust reports the same ones, for each root
-        let reported: HashSet<ErrorRow> = reading.step3_errors.iter().cloned().collect();
-        assert_eq!(reported, of_nodes);
-    }
-
-    fn error(&mut self, kind: u32, start: usize, name: Span) {
-        self.push(
-            ERRORS,
-            &[kind, word(start), word(name.start), word(name.len)],
-        );
     }
 }

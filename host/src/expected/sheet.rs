@@ -6,7 +6,8 @@ use super::{expected, Expected, ERRORS, NAMES, NODES, WIDTHS};
 
 const JETS_LIMIT: usize = 65_536;
 
-const NODE_WORDS: [&str; 20] = [
+/// The kinds of nodes, from 1 on, as the listing has them.
+pub const NODE_WORDS: [&str; 20] = [
     "missing",
     "noexpr",
     "ref",

@@ -1,8 +1,8 @@
 //! Every form of nesting about 128 deep, alone and in turn with every other.
 
-use super::run::Piece;
 use super::{Comparison, List};
 use crate::generate::{BOTTOMS, EXPRESSION_LEVELS, TYPE_BOTTOMS, TYPE_LEVELS};
+use crate::run::Piece;
 
 /// What stands before and behind the inner part, for one level.
 type Level = (&'static str, &'static str);

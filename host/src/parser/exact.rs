@@ -1,7 +1,7 @@
 //! All short series of tokens, behind fronts that each stop at another place of the grammar.
 
-use super::run::Piece;
 use super::{Comparison, List};
+use crate::run::Piece;
 
 /// One token or a few of every role in the grammar, some of which are refused where they are taken. `#` stands for a
 /// literal CMR.

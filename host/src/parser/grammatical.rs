@@ -1,7 +1,7 @@
 //! All files of one line that the grammar takes, up to some number of tokens, so that every small table is compared.
 
-use super::run::Piece;
 use super::{Comparison, List};
+use crate::run::Piece;
 
 const JETS: &[u8] = b"a\n";
 
@@ -19,7 +19,7 @@ const FULL: (usize, usize) = (8, 7);
 pub fn all_expressions(piece: &Piece, comparison: &mut Comparison) {
     let list = List::new(JETS);
     let (most, _) = if piece.scale.quick { QUICK } else { FULL };
-    let expressions = expressions(most).concat();
+    let expressions = expressions(most, &LEAVES).concat();
     for (_, text) in (0..)
         .zip(expressions)
         .filter(|&(number, _)| piece.takes(number))
@@ -47,13 +47,14 @@ pub fn all_types(piece: &Piece, comparison: &mut Comparison) {
     }
 }
 
-/// The expressions of each number of tokens, from 0 on. One keyword stands for those that are read alike.
-fn expressions(most: usize) -> Vec<Vec<String>> {
+/// The expressions of each number of tokens, from 0 on, with these of one token, of two and so on. One keyword stands for
+/// those that are read alike.
+pub fn expressions(most: usize, leaves: &[&[&str]]) -> Vec<Vec<String>> {
     let literal = format!("#{}", "a5".repeat(32));
     let mut all: Vec<Vec<String>> = vec![Vec::new()];
     for size in 1..=most {
-        let leaves = LEAVES.get(size - 1).copied().unwrap_or_default();
-        let mut found: Vec<String> = leaves.iter().map(|leaf| leaf.to_string()).collect();
+        let own = leaves.get(size - 1).copied().unwrap_or_default();
+        let mut found: Vec<String> = own.iter().map(|leaf| leaf.to_string()).collect();
         let of = |less: usize| size.checked_sub(less).map_or(&[][..], |size| &all[size]);
         found.extend(of(1).iter().map(|child| format!("take {child}")));
         for child in of(2) {
@@ -130,7 +131,10 @@ mod tests {
 
     #[test]
     fn expressions_are_read_and_all_there() {
-        assert_eq!(sizes(&expressions(4), "a := ", ""), [0, 3, 5, 23, 68]);
+        assert_eq!(
+            sizes(&expressions(4, &LEAVES), "a := ", ""),
+            [0, 3, 5, 23, 68]
+        );
     }
 
     #[test]

@@ -1,14 +1,14 @@
 //! The parts of the comparison of parsers, and the files that are generated for it.
 
-use super::buffer::{ROOM, WORDS};
-use super::run::{Part, Piece};
+use super::lent::{ROOM, WORDS};
 use super::{depths, exact, grammatical, jets, limits, literals, numbers, tokens};
 use super::{Comparison, List};
 use crate::generate::{byte_soup, damage_bytes, generate, token_soup};
 use crate::random::Random;
+use crate::run::{Part, Piece};
 
 /// The parts. Those that take longest come first, so that no core is left with one of them at the end.
-pub const PARTS: [Part; 20] = [
+pub const PARTS: [Part<Comparison>; 20] = [
     part(
         "parser, generated files, whole and damaged",
         16,
@@ -67,7 +67,11 @@ pub const PARTS: [Part; 20] = [
     part("parser, spans of generated files", 4, literals::any_spans),
 ];
 
-const fn part(name: &'static str, pieces: usize, compare: fn(&Piece, &mut Comparison)) -> Part {
+const fn part(
+    name: &'static str,
+    pieces: usize,
+    compare: fn(&Piece, &mut Comparison),
+) -> Part<Comparison> {
     Part {
         name,
         pieces,

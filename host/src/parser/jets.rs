@@ -1,7 +1,7 @@
 //! Jets by lists of every form.
 
-use super::run::Piece;
 use super::{Comparison, List};
+use crate::run::Piece;
 
 /// Bytes that tell the rule of lists apart.
 const LETTERS: &[u8] = b"ab\n\r";

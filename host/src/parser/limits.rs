@@ -1,9 +1,9 @@
 //! Tables of many lengths, files about as large as they may be, and two refusals in one file.
 
-use super::buffer::{ROOM, TABLES, WORDS};
-use super::run::Piece;
+use super::lent::{ROOM, TABLES, WORDS};
 use super::{Comparison, List};
 use crate::random::Random;
+use crate::run::Piece;
 
 const JETS: &[u8] = b"verify\nadd_32\n";
 

@@ -7,11 +7,11 @@ use oracle::dag::Dag;
 use oracle::node::Inner;
 use oracle::Span;
 
-use super::run::Piece;
 use super::{reference, Comparison};
 use crate::generate::{byte_soup, generate, literal_edges, token_soup};
 use crate::library;
 use crate::random::Random;
+use crate::run::Piece;
 use crate::tally::{answer, Tally};
 
 /// Literals of up to so many bytes are asked about at every index.

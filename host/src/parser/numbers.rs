@@ -1,7 +1,7 @@
 //! Literals of every telling length, and exponents at every edge.
 
-use super::run::Piece;
 use super::{Comparison, List};
+use crate::run::Piece;
 
 /// Digits of hex literals: all set, none set, and mixed.
 const HEX: [&str; 3] = ["f", "0", "9e0c5a37b1"];

@@ -1,7 +1,7 @@
 //! What a call of the parser must answer and leave in its tables: all but refusal 1 follows from the oracle. And what a
 //! byte of a literal must be at any span, from the rules page.
 
-use super::buffer::{TABLES, WORDS};
+use super::lent::{TABLES, WORDS};
 use crate::expected::Expected;
 use crate::library::Parsed;
 

@@ -1,9 +1,9 @@
 //! Files cut at every token, and files with one token replaced, put in or taken out.
 
-use super::run::Piece;
 use super::{Comparison, List};
 use crate::generate::{File, Shape, KEYWORDS, PUNCTUATION};
 use crate::random::Random;
+use crate::run::Piece;
 
 /// Files that together hold every rule of the grammar. `#` stands for a literal CMR, `%` for a literal of 128 bits.
 const FILES: [&str; 10] = [

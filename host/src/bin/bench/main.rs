@@ -1,5 +1,9 @@
 //! Times the library against the Rust in one run, on the same texts.
 
+mod files;
+mod resolve;
+
+use files::*;
 use std::hint::black_box;
 use std::time::{Duration, Instant};
 use zaghdurem_host::library::{self, Counts, Tables};
@@ -13,10 +17,6 @@ const RUN_LENGTH: Duration = Duration::from_millis(8);
 
 const SIZES: [usize; 3] = [1 << 10, 8 << 10, 32 << 10];
 
-const ASCII: &str =
-    "main := pair (comp a iden) -- a line of a program\na := take drop unit : 1 -> 2^8\n";
-const MIXED: &str = "main := unit -- gr\u{fc}n \u{20ac} \u{65e5}\u{672c}\u{8a9e} \u{1f980}\n";
-
 /// The words of a token table.
 const TABLE: usize = (RULES.records * RULES.token_words) as usize;
 
@@ -28,38 +28,8 @@ const TABLES: [u32; 4] = [
     RULES.type_words,
 ];
 
-/// The bytes of a full file.
-const FULL: usize = RULES.source_bytes as usize;
-
-const SMALL: &str = "main := pair a iden\na := unit\n";
-
 /// How many bytes of program text with comments a typical file has.
 const TYPICAL: usize = 4 << 10;
-
-/// How many lines of jets there are, by a list of how many bytes.
-const JET_LINES: usize = 340;
-const JET_LIST: usize = 65_536;
-
-/// A line with hardly any white space: two bytes of three begin a token.
-const DENSE: &str = "a:=pair(take b)(c):1*2->(2+1)*_\n";
-
-/// Lines with so much text in comments or in names that 32 KiB of them have no more than 1,024 tokens.
-const COMMENTED: &str = "\
-main := pair (comp first iden) (take second) : 1 -> 2^8
--- Both halves of the input go through the first step, since the second one only looks at what is left of them;
--- whoever changes the order here has to change it in the lines below too, or the types no longer fit together.
-first := drop unit -- what the left half holds does not matter, so it is dropped before anything is done with it
-second := witness -- comes with the spending, and its type follows from where it is used in the line at the top
--- What comes out is eight bits wide; the step behind this one counts on that and would not fit anything wider.
--- The names are kept short where they stand in a line with others, and long where they are looked up by people.
--- A line that only gives a type may stand anywhere; it is put next to the line with the expression all the same.
-";
-const LONG_NAMES: &str = "\
-check_that_the_left_half_of_the_input_is_not_larger_than_the_limit := \
-comp take_the_left_half_of_the_input_and_put_the_limit_beside_it jet_less_or_equal_of_two_words_of_32_bits
-take_the_left_half_of_the_input_and_put_the_limit_beside_it := \
-pair the_left_half_of_the_input_as_it_was_handed_in the_limit_that_was_agreed_upon_by_both_sides
-";
 
 fn main() {
     println!("ratio: the library's time over the Rust's; below 1 the library is faster");
@@ -76,6 +46,7 @@ fn main() {
     }
     lex_lines();
     parse_lines();
+    resolve::resolve_lines();
 }
 
 /// Times the lexers, and how the library's time grows with the text.
@@ -191,47 +162,6 @@ fn parse(text: &str, list: &[u8], tables: &mut [Vec<u32>; 4]) -> Counts {
     library::parse_line_vector(text.as_bytes(), list, tables).expect("a text that is read")
 }
 
-/// 1,024 tokens in as few bytes as lines of their kind need.
-fn full_of_tokens() -> String {
-    let lines = (0..113).map(|n| format!("n{n} := comp (take n{}) drop iden\n", n + 1));
-    lines
-        .chain(["n113 := pair pair unit iden witness\n".to_owned()])
-        .collect()
-}
-
-/// The same 1,024 tokens, with comments that make the file as long as it may be.
-fn full_file() -> String {
-    let short = full_of_tokens();
-    let (lines, rest) = (short.lines().count(), FULL - short.len());
-    let mut text = String::with_capacity(FULL);
-    for (number, line) in short.lines().enumerate() {
-        let filled = rest / lines + usize::from(number < rest % lines);
-        text.push_str(&format!("{line} --{}\n", "c".repeat(filled - 3)));
-    }
-    text
-}
-
-/// Lines that are one jet each.
-fn jet_lines(jet: &str) -> String {
-    (0..JET_LINES)
-        .map(|n| format!("n{n} := jet_{jet}\n"))
-        .collect()
-}
-
-/// A list of 65,536 bytes with jets of a usual length.
-fn jet_list() -> Vec<u8> {
-    let mut list = b"first\n".to_vec();
-    let last = b"\nlast\n";
-    list.extend(
-        b"add_with_carry_32\n"
-            .iter()
-            .cycle()
-            .take(JET_LIST - list.len() - last.len()),
-    );
-    list.extend(last);
-    list
-}
-
 /// Bytes per second, in millions.
 fn speed(bytes: usize, nanos: f64) -> String {
     format!("{:.1} million bytes per second", bytes as f64 * 1e3 / nanos)
@@ -307,32 +237,4 @@ fn per_call<A>(work: &mut impl FnMut() -> A, count: u32) -> f64 {
 fn median(mut times: Vec<f64>) -> f64 {
     times.sort_by(f64::total_cmp);
     times[times.len() / 2]
-}
-
-/// The pattern's lines over and over, as many as `length` bytes hold; spaces fill the rest.
-fn lines_of_length(pattern: &str, length: usize) -> String {
-    let mut text = String::with_capacity(length);
-    for line in pattern.split_inclusive('\n').cycle() {
-        if text.len() + line.len() > length {
-            break;
-        }
-        text.push_str(line);
-    }
-    text.push_str(&" ".repeat(length - text.len()));
-    text
-}
-
-/// The pattern over and over, `length` bytes of it; dots fill what a whole character does not.
-fn text_of_length(pattern: &str, length: usize) -> String {
-    let mut text = String::with_capacity(length);
-    for next in pattern.chars().cycle() {
-        if text.len() + next.len_utf8() > length {
-            break;
-        }
-        text.push(next);
-    }
-    while text.len() < length {
-        text.push('.');
-    }
-    text
 }
