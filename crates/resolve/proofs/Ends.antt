@@ -17,15 +17,15 @@ use Rattle.walk.specs.Walk.{Node, Status, fresh, finished, State, namesTo, unwa
 use Rattle.walk.specs.Trees.{treeOf}
 use Rattle.walk.specs.Nodes.{inDegree, nodeRowsFrom, nodeRows, nodeNo, namedRowsFrom, namedRows, walked, nodesOf}
 use Rattle.walk.proofs.Basics.{not-fresh-done}
-use Rattle.walk.proofs.Fuel.{fresh-sum, all-done}
-use Rattle.walk.proofs.Machine.{size}
-use Rattle.walk.proofs.Count.{fresh-size, nodes-parts, total as total-of, total-none, total-more, parts-total}
+use Rattle.walk.proofs.Fuel.{all-done}
+use Rattle.walk.proofs.Count.{nodes-parts, total as total-of, total-none, total-more, parts-total}
 use Rattle.walk.proofs.Sizes.{nodes-are-parts, parts-few}
 use Rattle.resolve.specs.Resolved.{HeldNames, Resolved}
 use Rattle.resolve.specs.Words.{statusWord, Counts}
 use Rattle.resolve.specs.Turns.{Given, statusRows, freshRow, Stack, Holds, VisitsTo}
 use Rattle.resolve.proofs.Names.{rows-length, rows-wide}
 use Rattle.resolve.proofs.Holds.{few}
+use Rattle.walk.specs.Machine.{freshSum, size, freshSize}
 
 -- ---- rows
 
@@ -49,12 +49,12 @@ rows-none k (x ∷ xs) = ap {B = List (List ℕ)} (λ rs. freshRow x ∷ rs) (ro
 
 -- ---- room
 
-sum-total : (f : ℕ → ℕ) (n : ℕ) → fresh-sum f n (λ m. fresh) ≡ total-of f n
-unfolding fresh-sum
+sum-total : (f : ℕ → ℕ) (n : ℕ) → freshSum f n (λ m. fresh) ≡ total-of f n
+unfolding freshSum
 sum-total f zero = sym (total-none f)
 sum-total f (suc n) = omega (arith, sum-total f n, total-more f n)
 
-parts-fit : (source es : List ℕ) (ls : List Line) → Held source es ls → fresh-size (treeOf ls (namesOf ls)) (length (namesOf ls)) (unwalked (treeOf ls (namesOf ls)) (length (namesOf ls))) ≤ recordLimit
+parts-fit : (source es : List ℕ) (ls : List Line) → Held source es ls → freshSize (treeOf ls (namesOf ls)) (length (namesOf ls)) (unwalked (treeOf ls (namesOf ls)) (length (namesOf ls))) ≤ recordLimit
 parts-fit source es ls h =
     let F : ℕ → Tree = treeOf ls (namesOf ls) in
     let N : ℕ = length (namesOf ls) in

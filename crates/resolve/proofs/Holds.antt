@@ -22,12 +22,12 @@ use Rattle.names.proofs.Laws.{names-few, find-is, find-first, find-stands, text
 use Rattle.walk.specs.Walk.{Head, Node, Status, fresh, begun, finished, State, marked, mark, finish, resolve}
 use Rattle.walk.specs.Nodes.{nodeRecord}
 use Rattle.walk.proofs.Basics.{same?, marked-same, marked-other, length-snoc}
-use Rattle.walk.proofs.Machine.{Frame, wait-right, wait-left, wait-name}
 use Rattle.resolve.specs.Words.{usedIn, placeIn, spanIn, nodeIn, nodesWith, statusWord, namesWith, targetOf, referenceKind, begunWord}
 use Rattle.resolve.specs.Turns.{Given, names-of, total, headAt, usedAt, nameNo, Named, Waits, Stack, Sane, Holds, freshRow}
 use Rattle.resolve.proofs.Names.{word-start, span-of, word-status, word-expr, names-marked, texts-same}
 use Rattle.tables.proofs.Words.{word-none}
 use Rattle.resolve.proofs.Tables.{next-is, item-same, item-below, item-length, item-beyond, node-more}
+use Rattle.walk.specs.Machine.{Frame, waitRight, waitLeft, waitName}
 
 -- ---- statuses
 
@@ -203,9 +203,9 @@ module _ {source es : List ℕ} {count : ℕ} (w : Given source es count) where
   top-waits h = rw (h .waiting) (h .stack .0)
 
   abbrev waitsOf : Frame → ℕ
-  waitsOf (wait-right k h l) = 1
-  waitsOf (wait-left k h b) = 2
-  waitsOf (wait-name h m) = 3
+  waitsOf (waitRight k h l) = 1
+  waitsOf (waitLeft k h b) = 2
+  waitsOf (waitName h m) = 3
 
   -- what the innermost item waits for tells the frame
   pub waits-for : {c d : ℕ} {nm nd wk : List ℕ} {s : State} {k : Frame} {ks : List Frame} (h : Holds w c d nm nd wk s (k ∷ ks)) → wordAt workWidth wk d 2 ≡ waitsOf k
@@ -213,6 +213,6 @@ module _ {source es : List ℕ} {count : ℕ} (w : Given source es count) where
   waits-for {c} {d} {nm} {nd} {wk} {s} {k} {ks} h = go k (top-waits h)
     where
       go : (f : Frame) → Waits w (wordAt workWidth wk d 0) (wordAt workWidth wk d 1) (wordAt workWidth wk d 2) (wordAt workWidth wk d 3) f → wordAt workWidth wk d 2 ≡ waitsOf f
-      go (wait-right k h l) v = v .0
-      go (wait-left k h b) v = v .0
-      go (wait-name h m) v = v .0
+      go (waitRight k h l) v = v .0
+      go (waitLeft k h b) v = v .0
+      go (waitName h m) v = v .0

@@ -12,28 +12,30 @@ use Rattle.records.specs.Limits.{recordLimit, nameWidth}
 use Rattle.records.proofs.Choices.{and-left, and-right}
 use Rattle.tables.specs.Tables.{wordAt}
 use Rattle.walk.specs.Walk.{Tree, none, part, refer, Status, fresh, begun, finished, State, Walked, mark, walk, ready, whole, wholeIf, visit, namesTo, unwalked}
-use Rattle.walk.proofs.Basics.{Legal, ready-true, ready-intro}
-use Rattle.walk.proofs.Fuel.{fresh-sum, share, sum-begin, visit-unroll}
-use Rattle.walk.proofs.Count.{fresh-size, visit-room, walk-room, walk-number}
-use Rattle.walk.proofs.Machine.{Config, down, up, step, meaning, resume, size, cost, frames-size, frames-cost, steps-left, load, running, absent, Fit, names-legal, step-meaning, step-load, step-fit, step-falls}
+use Rattle.walk.proofs.Basics.{ready-true, ready-intro}
+use Rattle.walk.proofs.Fuel.{sum-begin, visit-unroll}
+use Rattle.walk.proofs.Count.{visit-room, walk-room, walk-number}
+use Rattle.walk.proofs.Machine.{step-meaning, step-load, step-fit, step-falls}
 use Rattle.resolve.specs.declared.Walker.{Walker}
 use Rattle.resolve.specs.Words.{downWalker, statusWord, namesWith, begunWord, freshName}
 use Rattle.resolve.specs.Turns.{Given, total, trees, StandsFor, Holds, Reads, Fits, Turns, isRunning, turnLimit, Runs, Visits, VisitsTo}
 use Rattle.resolve.proofs.Holds.{status-is, expr-is, word-fresh, holds-mark}
 use Rattle.resolve.proofs.Turning.{no-way, fresh-both, fresh-intro, not-finished}
 use Rattle.resolve.proofs.Bridge.{tree-stands}
+use Rattle.walk.specs.Walk.{Legal}
+use Rattle.walk.specs.Machine.{freshSum, share, freshSize, Config, down, up, step, meaning, resume, size, cost, framesSize, framesCost, stepsLeft, load, Running, Absent, Fit, NamesLegal}
 
 -- ---- all the turns
 
 module _ {source es : List ℕ} {count : ℕ} (w : Given source es count) where
   -- each name has a tree
-  some-tree : (n : ℕ) → Legal (total w) n → absent (trees w) (total w) (trees w n) → ⊥
+  some-tree : (n : ℕ) → Legal (total w) n → Absent (trees w) (total w) (trees w n) → ⊥
   some-tree n l a = go _ (trees w n) (tree-stands w n (l .0) (l .1)) a
     where
-      go : (e : ℕ) (t : Tree) → StandsFor w e n t → absent (trees w) (total w) t → ⊥
+      go : (e : ℕ) (t : Tree) → StandsFor w e n t → Absent (trees w) (total w) t → ⊥
       go e none s a = let z : n ≡ 0 = unfold StandsFor in (s .1) in omega (arith, l .0)
-      go e (part k h x y) s a = unfold absent in a
-      go e (refer h m) s a = unfold absent in a
+      go e (part k h x y) s a = unfold Absent in a
+      go e (refer h m) s a = unfold Absent in a
 
   -- where the walk stands after so many turns from c
   pub record Along (c : Config) (h : Walker) (nm nd wk : List ℕ) (turns : ℕ) : Type 0 where
@@ -41,10 +43,10 @@ module _ {source es : List ℕ} {count : ℕ} (w : Given source es count) where
     pub reads : Reads w h nm nd wk at·
     pub fits : Fits w at·
     pub means : meaning (trees w) (total w) at· ≡ meaning (trees w) (total w) c
-    pub left : steps-left (trees w) (total w) at· + turns ≤ turnLimit
+    pub left : stepsLeft (trees w) (total w) at· + turns ≤ turnLimit
 
-  is-going : (h : Walker) (nm nd wk : List ℕ) (c : Config) → Reads w h nm nd wk c → isRunning (h .up) (h .waiting) ≡ true → running (trees w) (total w) c
-  unfolding Reads running
+  is-going : (h : Walker) (nm nd wk : List ℕ) (c : Config) → Reads w h nm nd wk c → isRunning (h .up) (h .waiting) ≡ true → Running (trees w) (total w) c
+  unfolding Reads Running
   is-going h nm nd wk (down t s ks) r q = tt
   is-going h nm nd wk (up x []) r q =
       absurd (no-way q (ap₂ (λ (b : Bool) (n : ℕ). isRunning b n) (r .0) (r .2 .waiting)))
@@ -66,16 +68,16 @@ module _ {source es : List ℕ} {count : ℕ} (w : Given source es count) where
       → Reads w h nm nd wk (up (meaning (trees w) (total w) c) [])
   along-ends c h nm nd wk turns a stop = go (a .at·) (a .reads) (a .means) (a .left)
     where
-      go : (d : Config) → Reads w h nm nd wk d → meaning (trees w) (total w) d ≡ meaning (trees w) (total w) c → steps-left (trees w) (total w) d + turns ≤ turnLimit
+      go : (d : Config) → Reads w h nm nd wk d → meaning (trees w) (total w) d ≡ meaning (trees w) (total w) c → stepsLeft (trees w) (total w) d + turns ≤ turnLimit
           → Reads w h nm nd wk (up (meaning (trees w) (total w) c) [])
       go (down t s ks) r m l =
-          absurd (stop (omega (arith, l, step-falls (trees w) (total w) (down t s ks) (unfold running in tt))) (still (unfold Reads in (r .0))))
+          absurd (stop (omega (arith, l, step-falls (trees w) (total w) (down t s ks) (unfold Running in tt))) (still (unfold Reads in (r .0))))
         where
           still : h .up ≡ false → isRunning (h .up) (h .waiting) ≡ true
           still u = rw u
       go (up x []) r m l = let e : x ≡ meaning (trees w) (total w) c = unfold meaning resume in m in subst (λ (y : Walked). Reads w h nm nd wk (up y [])) e r
       go (up x (k ∷ ks)) r m l =
-          absurd (stop (omega (arith, l, step-falls (trees w) (total w) (up x (k ∷ ks)) (unfold running in tt))) (still (unfold Reads in (r .0)) (unfold Reads in (r .2 .waiting))))
+          absurd (stop (omega (arith, l, step-falls (trees w) (total w) (up x (k ∷ ks)) (unfold Running in tt))) (still (unfold Reads in (r .0)) (unfold Reads in (r .2 .waiting))))
         where
           still : h .up ≡ true → h .waiting ≡ suc (length ks) → isRunning (h .up) (h .waiting) ≡ true
           still u v = rw (u, v, ne-eqb (suc (length ks)) 0 (λ q. omega arith))
@@ -83,7 +85,7 @@ module _ {source es : List ℕ} {count : ℕ} (w : Given source es count) where
 -- after so many turns, whatever configuration the first words stand for
 unfoldable pub Going : (source es : List ℕ) (count : ℕ) → Walker → (nm nd wk : List ℕ) → Walker → (nm nd wk : List ℕ) → (turns : ℕ) → Type 0
 Going source es count g nm nd wk h nm' nd' wk' turns =
-    (w : Given source es count) (c : Config) → Reads w g nm nd wk c → Fits w c → steps-left (trees w) (total w) c ≤ turnLimit → Along w c h nm' nd' wk' turns
+    (w : Given source es count) (c : Config) → Reads w g nm nd wk c → Fits w c → stepsLeft (trees w) (total w) c ≤ turnLimit → Along w c h nm' nd' wk' turns
 
 pub going-none : (source es : List ℕ) (count : ℕ) (g : Walker) (nm nd wk : List ℕ) → Going source es count g nm nd wk g nm nd wk 0
 unfolding Going
@@ -115,8 +117,8 @@ cost-le none = omega arith
 cost-le (part k h l r) = omega (arith, cost-le l, cost-le r)
 cost-le (refer h n) = omega arith
 
-sum-le : (f g : ℕ → ℕ) (N : ℕ) (st : ℕ → Status) → ((n : ℕ) → Legal N n → f n ≤ 5 * g n) → fresh-sum f N st ≤ 5 * fresh-sum g N st
-unfolding fresh-sum
+sum-le : (f g : ℕ → ℕ) (N : ℕ) (st : ℕ → Status) → ((n : ℕ) → Legal N n → f n ≤ 5 * g n) → freshSum f N st ≤ 5 * freshSum g N st
+unfolding freshSum
 sum-le f g zero st h = omega arith
 sum-le f g (suc N) st h = omega (arith, sum-le f g N st (λ n l. h n (omega (arith, l), omega (arith, l))), one (st (suc N)))
   where
@@ -129,10 +131,10 @@ sum-le f g (suc N) st h = omega (arith, sum-le f g N st (λ n l. h n (omega (ari
 
 module _ {source es : List ℕ} {count : ℕ} (w : Given source es count) where
   tree-cost : (n : ℕ) → Legal (total w) n → cost (trees w n) ≤ 5 * size (trees w n)
-  unfolding size cost absent
+  unfolding size cost Absent
   tree-cost n l = go (trees w n) (some-tree w n l) (cost-le (trees w n))
     where
-      go : (t : Tree) → (absent (trees w) (total w) t → ⊥) → cost t ≤ 4 * size t + 1 → cost t ≤ 5 * size t
+      go : (t : Tree) → (Absent (trees w) (total w) t → ⊥) → cost t ≤ 4 * size t + 1 → cost t ≤ 5 * size t
       go none a c = absurd (a tt)
       go (part k h x y) a c = omega (arith, c)
       go (refer h m) a c = omega arith
@@ -176,17 +178,17 @@ visit-yes source es count n made nm nd wk nm₁ nm₂ nd₂ wk₂ nm₃ v e g h 
     c : Config
     c = down (F n) (mark n begun s) []
 
-    sums : fresh-size F N (mark n begun s) + size (F n) ≡ fresh-size F N s
+    sums : freshSize F N (mark n begun s) + size (F n) ≡ freshSize F N s
     sums = sum-begin (λ m. size (F m)) N n (s .status) (legal .0) (legal .1) n-fresh
 
     starts : Reads w g nm₁ nd wk c
     starts = unfold Reads in rw hg (refl, subst (λ (i : ℕ). StandsFor w i n (F n)) (sym (he ∙ ap (λ (t : List ℕ). wordAt nameWidth t n 2) (sym h1) ∙ expr-is w marked₁ n (legal .0) (legal .1))) (tree-stands w n (legal .0) (legal .1)), marked₁)
 
     fits : Fits w c
-    fits = unfold load Fit names-legal frames-size in (omega (arith, sums, f), (tt, λ z. absurd (some-tree w n legal z)))
+    fits = unfold load Fit NamesLegal framesSize in (omega (arith, sums, f), (tt, λ z. absurd (some-tree w n legal z)))
 
-    turns : steps-left F N c ≤ turnLimit
-    turns = unfold steps-left frames-cost in omega (arith, sums, f, tree-cost w n legal, sum-le (λ m. cost (F m)) (λ m. size (F m)) N (mark n begun s .status) (tree-cost w))
+    turns : stepsLeft F N c ≤ turnLimit
+    turns = unfold stepsLeft framesCost in omega (arith, sums, f, tree-cost w n legal, sum-le (λ m. cost (F m)) (λ m. size (F m)) N (mark n begun s .status) (tree-cost w))
 
     x : Walked
     x = walk (visit F N) (F n) (mark n begun s)
@@ -216,9 +218,9 @@ visit-yes source es count n made nm nd wk nm₁ nm₂ nd₂ wk₂ nm₃ v e g h 
 -- after the names 1 to n, with room for the others
 unfoldable pub Past : (source es : List ℕ) (count n : ℕ) (nm nd wk : List ℕ) (made : ℕ) (nm' nd' wk' : List ℕ) → Type 0
 Past source es count n nm nd wk c' nm' nd' wk' =
-    (w : Given source es count) → Holds w 0 0 nm nd wk (unwalked (trees w) (total w)) [] → fresh-size (trees w) (total w) (unwalked (trees w) (total w)) ≤ recordLimit
+    (w : Given source es count) → Holds w 0 0 nm nd wk (unwalked (trees w) (total w)) [] → freshSize (trees w) (total w) (unwalked (trees w) (total w)) ≤ recordLimit
     → Holds w c' 0 nm' nd' wk' (namesTo (trees w) (total w) n (unwalked (trees w) (total w))) []
-    × (length (namesTo (trees w) (total w) n (unwalked (trees w) (total w)) .nodes) + fresh-size (trees w) (total w) (namesTo (trees w) (total w) n (unwalked (trees w) (total w))) ≤ recordLimit)
+    × (length (namesTo (trees w) (total w) n (unwalked (trees w) (total w)) .nodes) + freshSize (trees w) (total w) (namesTo (trees w) (total w) n (unwalked (trees w) (total w))) ≤ recordLimit)
 
 pub past-none : (source es : List ℕ) (count : ℕ) (nm nd wk : List ℕ) → Past source es count 0 nm nd wk 0 nm nd wk
 unfolding Past namesTo

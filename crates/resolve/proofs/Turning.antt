@@ -17,7 +17,7 @@ use Rattle.tables.proofs.Words.{word-none}
 use Rattle.cursor.specs.Cursor.{nextNumber}
 use Rattle.walk.specs.Walk.{Head, Own, noexpr, of, ownKind, Tree, none, part, refer, Node, Status, fresh, begun, finished, mark, resolve, ready}
 use Rattle.walk.proofs.Basics.{ready-true, ready-intro, not-begun-done}
-use Rattle.walk.proofs.Machine.{Frame, wait-right, wait-left, wait-name, down, up, step, at·reference, size, room-down, room-up, Fit, names-legal, part-waits}
+use Rattle.walk.proofs.Machine.{room-down, room-up}
 use Rattle.resolve.specs.declared.StackItem.{StackItem}
 use Rattle.resolve.specs.declared.Walker.{Walker}
 use Rattle.resolve.specs.Words.{itemWords, itemAt, downWalker, upWalker, leftItem, leftWalker, doneWalker, usedIn, kindIn, nodesWith, statusWord, namesWith, targetOf, referenceKind, begunWord, freshName}
@@ -25,6 +25,7 @@ use Rattle.resolve.specs.Turns.{Given, total, trees, headAt, usedAt, Own
 use Rattle.resolve.proofs.Tables.{next-is}
 use Rattle.resolve.proofs.Holds.{used-le, used-is, status-is, expr-is, word-fresh, resolved, holds-node, holds-mark, holds-push, holds-pop, top-waits, waits-for}
 use Rattle.resolve.proofs.Bridge.{tree-stands}
+use Rattle.walk.specs.Machine.{Frame, waitRight, waitLeft, waitName, down, up, step, atReference, size, Fit, NamesLegal, PartWaits}
 
 -- ---- tests
 
@@ -94,7 +95,7 @@ down-part source es count g p nm nd wk wk' k i e u t hk nk hi hw he hp w (down n
     absurd (no-way (rw (eq-eqb (g .expr .0) 0 (r .1 .0), eq-eqb (g .name .0) 0 (r .1 .1))) t)
 down-part source es count g p nm nd wk wk' k i e u t hk nk hi hw he hp w (down (refer h m) s ks) r f = absurd (nk (hk ∙ r .1 .1))
 down-part source es count g p nm nd wk wk' k i e u t hk nk hi hw he hp w (down (part o h l q) s ks) r f =
-    rw hp (refl, subst (λ (x : ℕ). StandsFor w x 0 q) (sym he) (r .1 .4), holds-push w (r .2) (wait-right o h l) wk' i (g .expr .0) (g .name .0) 1 0 num room waits hw)
+    rw hp (refl, subst (λ (x : ℕ). StandsFor w x 0 q) (sym he) (r .1 .4), holds-push w (r .2) (waitRight o h l) wk' i (g .expr .0) (g .name .0) 1 0 num room waits hw)
   where
     big : length (s .nodes) + length ks + 1 ≤ recordLimit
     big = unfold size in omega (arith, room-down (trees w) (total w) (part o h l q) s ks, f .0)
@@ -105,7 +106,7 @@ down-part source es count g p nm nd wk wk' k i e u t hk nk hi hw he hp w (down (
     num : i ≡ suc (length ks)
     num = hi ∙ ap nextNumber (r .2 .waiting) ∙ next-is (length ks) (omega (arith, big))
 
-    waits : Waits w (g .expr .0) (g .name .0) 1 0 (wait-right o h l)
+    waits : Waits w (g .expr .0) (g .name .0) 1 0 (waitRight o h l)
     waits = unfold Waits in (refl, own-kind w (g .expr .0) (g .name .0) o (r .1 .0), r .1 .1, own-named w (g .expr .0) (g .name .0) o (r .1 .2) (r .1 .0), r .1 .3)
 
 -- what a reference stands for
@@ -122,7 +123,7 @@ pub refer-begin : (source es : List ℕ) (count : ℕ) (g q : Walker) (nm nd wk 
     → m ≡ usedIn source es nm count (g .expr .0) → v ≡ wordAt nameWidth nm m 3 → freshName m v ≡ true → i ≡ nextNumber (g .waiting)
     → wk' ≡ written workWidth wk i (g .expr .0 ∷ g .name .0 ∷ 3 ∷ 0 ∷ []) → e ≡ wordAt nameWidth (namesWith nm m begunWord) m 2 → nm' ≡ namesWith nm m begunWord → q ≡ downWalker e m i (g .made)
     → Turns source es count g nm nd wk q nm' nd wk'
-unfolding Turns Reads step at·reference
+unfolding Turns Reads step atReference
 refer-begin source es count g q nm nd wk nm' wk' m v i e u k3 hm hv fr hi hw he hn hq w (up x ks) r f = absurd (no-way (r .0) u)
 refer-begin source es count g q nm nd wk nm' wk' m v i e u k3 hm hv fr hi hw he hn hq w (down t s ks) r f = go t (r .1) f (at-refer w (g .expr .0) (g .name .0) t k3 (r .1))
   where
@@ -149,7 +150,7 @@ refer-begin source es count g q nm nd wk nm' wk' m v i e u k3 hm hv fr hi hw he 
             rw is-ready (
               refl,
               subst (λ (x : ℕ). StandsFor w x m (trees w m)) (sym (he ∙ ap (λ (t : List ℕ). wordAt nameWidth t m 2) (sym hn) ∙ expr-is w marked· m (legal .0) (legal .1))) (tree-stands w m (legal .0) (legal .1)),
-              holds-push w marked· (wait-name (a .0) m) wk' i (g .expr .0) (g .name .0) 3 0 num room waits hw,
+              holds-push w marked· (waitName (a .0) m) wk' i (g .expr .0) (g .name .0) 3 0 num room waits hw,
             )
             )
           where
@@ -165,7 +166,7 @@ refer-begin source es count g q nm nd wk nm' wk' m v i e u k3 hm hv fr hi hw he 
             num : i ≡ suc (length ks)
             num = hi ∙ ap nextNumber (r .2 .waiting) ∙ next-is (length ks) (omega (arith, big))
 
-            waits : Waits w (g .expr .0) (g .name .0) 3 0 (wait-name (a .0) m)
+            waits : Waits w (g .expr .0) (g .name .0) 3 0 (waitName (a .0) m)
             waits = unfold Waits in (refl, a .4, (a .5, λ z. absurd (a .3 z)), a .6 ∙ sym m-is, refl)
 
 -- any other reference
@@ -173,7 +174,7 @@ pub refer-node : (source es : List ℕ) (count : ℕ) (g q : Walker) (nm nd wk n
     → m ≡ usedIn source es nm count (g .expr .0) → v ≡ wordAt nameWidth nm m 3 → freshName m v ≡ false → l ≡ targetOf v → k ≡ referenceKind l
     → nd' ≡ nodesWith es nm nd (g .made) k (g .expr .0) (g .name .0) l 0 → i ≡ nextNumber (g .made) → q ≡ upWalker i (g .waiting) i
     → Turns source es count g nm nd wk q nm nd' wk
-unfolding Turns Reads step at·reference
+unfolding Turns Reads step atReference
 refer-node source es count g q nm nd wk nd' m v i l k u k3 hm hv fr hl hk hn hi hq w (up x ks) r f = absurd (no-way (r .0) u)
 refer-node source es count g q nm nd wk nd' m v i l k u k3 hm hv fr hl hk hn hi hq w (down t s ks) r f = go t (r .1) f (at-refer w (g .expr .0) (g .name .0) t k3 (r .1))
   where
@@ -233,13 +234,13 @@ up-left source es count g nm nd wk wk' i q u b hi p hq hw w (up x (k ∷ ks)) r 
 
     go : (k : Frame) → Holds w (g .made) (g .waiting) nm nd wk (x .state) (k ∷ ks) → wordAt workWidth wk (g .waiting) 2 ≡ 1 → Fits w (up x (k ∷ ks))
         → Reads w q nm nd wk' (step (trees w) (total w) (up x (k ∷ ks)))
-    go (wait-left o h y) hd p1 ft = absurd (omega (arith, waits-for w hd, p1))
-    go (wait-name h m) hd p1 ft = absurd (omega (arith, waits-for w hd, p1))
-    go (wait-right o h l) hd p1 ft =
+    go (waitLeft o h y) hd p1 ft = absurd (omega (arith, waits-for w hd, p1))
+    go (waitName h m) hd p1 ft = absurd (omega (arith, waits-for w hd, p1))
+    go (waitRight o h l) hd p1 ft =
         rw (hq ∙ ap (λ (y : StackItem). leftWalker es y g) hi) (
           refl,
           top .4,
-          holds-push w (holds-pop w hd) (wait-left o h (x .number)) wk' (g .waiting) e (wordAt workWidth wk (g .waiting) 1) 2 (g .node .0) (hd .waiting) room waits
+          holds-push w (holds-pop w hd) (waitLeft o h (x .number)) wk' (g .waiting) e (wordAt workWidth wk (g .waiting) 1) 2 (g .node .0) (hd .waiting) room waits
               (hw ∙ ap (λ (y : StackItem). written workWidth wk (g .waiting) (itemWords (leftItem y g))) hi),
         )
       where
@@ -247,9 +248,9 @@ up-left source es count g nm nd wk wk' i q u b hi p hq hw w (up x (k ∷ ks)) r 
         top = unfold Waits in top-waits w hd
 
         room : suc (length ks) ≤ recordLimit
-        room = omega (arith, room-up (trees w) (total w) x (wait-right o h l ∷ ks), ft .0)
+        room = omega (arith, room-up (trees w) (total w) x (waitRight o h l ∷ ks), ft .0)
 
-        waits : Waits w e (wordAt workWidth wk (g .waiting) 1) 2 (g .node .0) (wait-left o h (x .number))
+        waits : Waits w e (wordAt workWidth wk (g .waiting) 1) 2 (g .node .0) (waitLeft o h (x .number))
         waits = unfold Waits in (refl, top .1, top .2, top .3, r .1)
 
 -- for its left child
@@ -269,9 +270,9 @@ up-node source es count g nm nd wk nd' i k q u b hi p hk hn hq w (up x (fr ∷ k
 
     go : (fr : Frame) → Holds w (g .made) (g .waiting) nm nd wk (x .state) (fr ∷ ks) → wordAt workWidth wk (g .waiting) 2 ≡ 2 → Fits w (up x (fr ∷ ks))
         → Reads w q nm nd' wk (step (trees w) (total w) (up x (fr ∷ ks)))
-    go (wait-right o h l) hd p1 ft = absurd (omega (arith, waits-for w hd, p1))
-    go (wait-name h m) hd p1 ft = absurd (omega (arith, waits-for w hd, p1))
-    go (wait-left o h y) hd p1 ft =
+    go (waitRight o h l) hd p1 ft = absurd (omega (arith, waits-for w hd, p1))
+    go (waitName h m) hd p1 ft = absurd (omega (arith, waits-for w hd, p1))
+    go (waitLeft o h y) hd p1 ft =
         rw hq (
           refl,
           ap nextNumber (hd .made) ∙ next-is (length (x .state .nodes)) room,
@@ -284,7 +285,7 @@ up-node source es count g nm nd wk nd' i k q u b hi p hk hn hq w (up x (fr ∷ k
         top = unfold Waits in top-waits w hd
 
         room : length (x .state .nodes) < recordLimit
-        room = omega (arith, room-up (trees w) (total w) x (wait-left o h y ∷ ks), ft .0)
+        room = omega (arith, room-up (trees w) (total w) x (waitLeft o h y ∷ ks), ft .0)
 
 -- for the name that it uses
 pub up-name : (source es : List ℕ) (count : ℕ) (g : Walker) (nm nd wk nm' nd' : List ℕ) (i : StackItem) (m : ℕ) (q : Walker) → g .up ≡ true → 1 ≤ g .waiting
@@ -306,9 +307,9 @@ up-name source es count g nm nd wk nm' nd' i m q u b hi p1 p2 hm hn hd hq w (up 
     waits-is = ap (λ (y : StackItem). y .waits) hi
 
     go : (fr : Frame) → Holds w (g .made) (g .waiting) nm nd wk (x .state) (fr ∷ ks) → Fits w (up x (fr ∷ ks)) → Reads w q nm' nd' wk (step (trees w) (total w) (up x (fr ∷ ks)))
-    go (wait-right o h l) h1 ft = absurd (p1 (waits-is ∙ waits-for w h1))
-    go (wait-left o h y) h1 ft = absurd (p2 (waits-is ∙ waits-for w h1))
-    go (wait-name h m₁) h1 ft =
+    go (waitRight o h l) h1 ft = absurd (p1 (waits-is ∙ waits-for w h1))
+    go (waitLeft o h y) h1 ft = absurd (p2 (waits-is ∙ waits-for w h1))
+    go (waitName h m₁) h1 ft =
         rw hq (
           refl,
           ap nextNumber (h1 .made) ∙ next-is (length (x .state .nodes)) room,
@@ -323,14 +324,14 @@ up-name source es count g nm nd wk nm' nd' i m q u b hi p1 p2 hm hn hd hq w (up 
         m-is = hm ∙ ap (λ (z : StackItem). usedIn source es nm count (z .expr .0)) hi ∙ used-is w h1 e ∙ top .3
 
         fit : ((1 ≤ m₁) × (m₁ ≤ total w)) × ((1 ≤ x .number) × (x .number ≤ length (x .state .nodes)))
-        fit = unfold Fit names-legal part-waits in (ft .1 .0 .0, sub (ft .1 .1))
+        fit = unfold Fit NamesLegal PartWaits in (ft .1 .0 .0, sub (ft .1 .1))
           where
             sub : ⊥ ⊎ ((1 ≤ x .number) × (x .number ≤ length (x .state .nodes))) → (1 ≤ x .number) × (x .number ≤ length (x .state .nodes))
             sub (inl z) = absurd z
             sub (inr z) = z
 
         room : length (x .state .nodes) < recordLimit
-        room = omega (arith, room-up (trees w) (total w) x (wait-name h m₁ ∷ ks), ft .0)
+        room = omega (arith, room-up (trees w) (total w) x (waitName h m₁ ∷ ks), ft .0)
 
         few-nodes : (j : ℕ) → _≡_ {A = Status} (finished (x .number)) (finished j) → (1 ≤ j) × (j ≤ recordLimit)
         few-nodes j z = let y : x .number ≡ j = cc in (omega (arith, fit .1 .0), omega (arith, fit .1 .1, room))

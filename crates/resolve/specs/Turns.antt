@@ -1,4 +1,4 @@
--- What the words of the walk stand for: a configuration of the machine of walk/proofs/Machine.antt.
+-- What the words of the walk stand for: a configuration of the machine of walk/specs/Machine.antt.
 use Prim.Native.Nat.{ℕ, suc, _+_, _*_, _-_, _≤_}
 use mathlib.Core.Bool.{Bool, true, false, _||_, not}
 use mathlib.Core.Path.{_≡_}
@@ -20,10 +20,9 @@ use Rattle.names.specs.Held.{spanAt, Held}
 use Rattle.walk.specs.Walk.{Head, Own, noexpr, of, ownKind, Tree, none, part, refer, Node, Status, fresh, finished, State, visit, namesTo, unwalked}
 use Rattle.walk.specs.Trees.{head, treeOf}
 use Rattle.walk.specs.Nodes.{nodeRecord}
-use Rattle.walk.proofs.Count.{fresh-size}
-use Rattle.walk.proofs.Machine.{Frame, wait-right, wait-left, wait-name, Config, down, up, step, meaning, steps-left, load, Fit}
 use Rattle.resolve.specs.Words.{kindIn, statusWord, forRight, forLeft, forName}
 use Rattle.resolve.specs.declared.Walker.{Walker}
+use Rattle.walk.specs.Machine.{freshSize, Frame, waitRight, waitLeft, waitName, Config, down, up, step, meaning, stepsLeft, load, Fit}
 
 -- lines whose tables these are, and the lent tables as they came
 pub record Given (source exprs : List ℕ) (count : ℕ) : Type 0 where
@@ -88,9 +87,9 @@ module _ {source exprs : List ℕ} {count : ℕ} (w : Given source exprs count) 
 
   -- the four words of a stack item stand for this frame
   unfoldable pub Waits : (e n waits right : ℕ) → Frame → Type 0
-  Waits e n p r (wait-right k h l) = (p ≡ forRight) × (kindIn exprs e ≡ node.number (ownKind k)) × (headAt e n ≡ h) × Named e n × StandsFor (wordAt exprWidth exprs e 2) 0 l
-  Waits e n p r (wait-left k h b) = (p ≡ forLeft) × (kindIn exprs e ≡ node.number (ownKind k)) × (headAt e n ≡ h) × Named e n × (r ≡ b)
-  Waits e n p r (wait-name h m) = (p ≡ forName) × (headAt e n ≡ h) × Named e n × (usedAt e ≡ m) × (r ≡ 0)
+  Waits e n p r (waitRight k h l) = (p ≡ forRight) × (kindIn exprs e ≡ node.number (ownKind k)) × (headAt e n ≡ h) × Named e n × StandsFor (wordAt exprWidth exprs e 2) 0 l
+  Waits e n p r (waitLeft k h b) = (p ≡ forLeft) × (kindIn exprs e ≡ node.number (ownKind k)) × (headAt e n ≡ h) × Named e n × (r ≡ b)
+  Waits e n p r (waitName h m) = (p ≡ forName) × (headAt e n ≡ h) × Named e n × (usedAt e ≡ m) × (r ≡ 0)
 
   unfoldable pub Stack : (work : List ℕ) → List Frame → Type 0
   Stack wk [] = Unit {0}
@@ -137,18 +136,18 @@ turnLimit = 8192
 -- all the turns: what is left is what the recursive walk comes to
 unfoldable pub Runs : (source exprs : List ℕ) → (count : ℕ) → Walker → (nm nd wk : List ℕ) → Walker → (nm nd wk : List ℕ) → Type 0
 Runs source es count g nm nd wk q nm' nd' wk' =
-    (w : Given source es count) (c : Config) → Reads w g nm nd wk c → Fits w c → steps-left (trees w) (total w) c ≤ turnLimit
+    (w : Given source es count) (c : Config) → Reads w g nm nd wk c → Fits w c → stepsLeft (trees w) (total w) c ≤ turnLimit
     → Reads w q nm' nd' wk' (up (meaning (trees w) (total w) c) [])
 
 -- the visit of the name n
 unfoldable pub Visits : (source exprs : List ℕ) → (count n made : ℕ) → (nm nd wk : List ℕ) → (made : ℕ) → (nm nd wk : List ℕ) → Type 0
 Visits source es count n c nm nd wk c' nm' nd' wk' =
-    (w : Given source es count) (s : State) → 1 ≤ n → n ≤ count → Holds w c 0 nm nd wk s [] → length (s .nodes) + fresh-size (trees w) (total w) s ≤ recordLimit
+    (w : Given source es count) (s : State) → 1 ≤ n → n ≤ count → Holds w c 0 nm nd wk s [] → length (s .nodes) + freshSize (trees w) (total w) s ≤ recordLimit
     → Holds w c' 0 nm' nd' wk' (visit (trees w) (total w) n s) []
 
 -- the names 1 to n
 unfoldable pub VisitsTo : (source exprs : List ℕ) → (count n : ℕ) → (nm nd wk : List ℕ) → (made : ℕ) → (nm nd wk : List ℕ) → Type 0
 VisitsTo source es count n nm nd wk c' nm' nd' wk' =
-    (w : Given source es count) → Holds w 0 0 nm nd wk (unwalked (trees w) (total w)) [] → fresh-size (trees w) (total w) (unwalked (trees w) (total w)) ≤ recordLimit
+    (w : Given source es count) → Holds w 0 0 nm nd wk (unwalked (trees w) (total w)) [] → freshSize (trees w) (total w) (unwalked (trees w) (total w)) ≤ recordLimit
     → Holds w c' 0 nm' nd' wk' (namesTo (trees w) (total w) n (unwalked (trees w) (total w))) []
     × (length (namesTo (trees w) (total w) n (unwalked (trees w) (total w)) .nodes) ≤ recordLimit)

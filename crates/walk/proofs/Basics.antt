@@ -11,7 +11,7 @@ use lib.Dec.{leb, eqb, T, leb→le, le→leb, eqb→eq, eqb-refl, not-T}
 use Rattle.records.specs.Base.{if_then_else_}
 use Rattle.records.specs.NodeKind as node
 use Rattle.walk.specs.Walk.{Head, Own, ownKind, Tree, none, part, refer, Node, Status, fresh, begun, finished, State, Walked, marked, mark, finish, resolve, isFresh, walk}
-use Rattle.walk.specs.Walk.{ready, whole, wholeIf, visitIn, visit, namesTo, unwalked, final}
+use Rattle.walk.specs.Walk.{Legal, ready, whole, wholeIf, visitIn, visit, namesTo, unwalked, final}
 
 -- ---- tests
 
@@ -72,12 +72,9 @@ length-snoc xs x = omega (arith, length-append xs (x ∷ []))
 -- ---- what no step undoes
 
 module _ (N : ℕ) where
-  abbrev pub Legal : ℕ → Type 0
-  Legal n = (1 ≤ n) × (n ≤ N)
-
   -- the status of the name m before and after: unchanged, or m was legal and fresh and is finished
   abbrev pub Kept : ℕ → Status → Status → Type 0
-  Kept m a b = (b ≡ a) ⊎ ((a ≡ fresh) × Legal m × ((i : ℕ) × (b ≡ finished i)))
+  Kept m a b = (b ≡ a) ⊎ ((a ≡ fresh) × Legal N m × ((i : ℕ) × (b ≡ finished i)))
 
   pub record Grow (s t : State) : Type 0 where
     pub more : List Node

@@ -7,14 +7,15 @@ use native.Mathlib.Omega.{arith}
 use lib.ListN.{length}
 use Rattle.walk.specs.Walk.{ownKind, Tree, none, part, refer, Node, Status, fresh, begun, finished, State, Walked, marked, mark, resolve, walk}
 use Rattle.walk.specs.Walk.{ready, whole, wholeIf, visitIn, visit, namesTo, unwalked, final}
-use Rattle.walk.proofs.Basics.{same?, marked-same, marked-other, not-fresh-done, not-fresh-begun, length-snoc, Legal, Grows, walk-begun, ready-true, visit-in-grow}
-use Rattle.walk.proofs.Fuel.{share, fresh-sum, sum-begin, sum-same, all-done}
-use Rattle.walk.proofs.Machine.{size, absent}
+use Rattle.walk.proofs.Basics.{same?, marked-same, marked-other, not-fresh-done, not-fresh-begun, length-snoc, Grows, walk-begun, ready-true, visit-in-grow}
+use Rattle.walk.proofs.Fuel.{sum-begin, sum-same, all-done}
+use Rattle.walk.specs.Walk.{Legal}
+use Rattle.walk.specs.Machine.{size, share, freshSum, freshSize, Absent}
 
 -- ---- every part of a tree becomes one node, and a name's tree is walked at most once
 
 -- to finish a name that is begun makes none fresh
-sum-finished : (f : ℕ → ℕ) (N n i : ℕ) (st : ℕ → Status) → st n ≡ begun → fresh-sum f N (marked n (finished i) st) ≡ fresh-sum f N st
+sum-finished : (f : ℕ → ℕ) (N n i : ℕ) (st : ℕ → Status) → st n ≡ begun → freshSum f N (marked n (finished i) st) ≡ freshSum f N st
 sum-finished f N n i st b = sum-same f N st (marked n (finished i) st) (λ m. go m (same? m n))
   where
     go : (m : ℕ) → (m ≡ n) ⊎ (m ≢ n) → (marked n (finished i) st m ≡ fresh → st m ≡ fresh) × (st m ≡ fresh → marked n (finished i) st m ≡ fresh)
@@ -22,8 +23,8 @@ sum-finished f N n i st b = sum-same f N st (marked n (finished i) st) (λ m. go
     go m (inr d) = (λ e. sym (marked-other n (finished i) st m d) ∙ e, λ e. marked-other n (finished i) st m d ∙ e)
 
 -- with no fresh name the sum is 0
-sum-none : (f : ℕ → ℕ) (n : ℕ) (st : ℕ → Status) → ((m : ℕ) → Legal n m → st m ≡ fresh → ⊥) → fresh-sum f n st ≡ 0
-unfolding fresh-sum
+sum-none : (f : ℕ → ℕ) (n : ℕ) (st : ℕ → Status) → ((m : ℕ) → Legal n m → st m ≡ fresh → ⊥) → freshSum f n st ≡ 0
+unfolding freshSum
 sum-none f zero st h = refl
 sum-none f (suc n) st h = omega (arith, sum-none f n st (λ m l. h m (l .0, omega (arith, l))), go (st (suc n)) refl)
   where
@@ -33,16 +34,13 @@ sum-none f (suc n) st h = omega (arith, sum-none f n st (λ m l. h m (l .0, omeg
     go (finished i) e = refl
 
 module _ (F : ℕ → Tree) (N : ℕ) where
-  abbrev pub fresh-size : State → ℕ
-  fresh-size s = fresh-sum (λ n. size (F n)) N (s .status)
-
   -- the nodes, and the parts of the names not yet begun, are together as many as before
   record Even (v : ℕ → State → State) : Type 0 where
     grows : Grows N v
-    even : (n : ℕ) (s : State) → length (v n s .nodes) + fresh-size (v n s) ≡ length (s .nodes) + fresh-size s
+    even : (n : ℕ) (s : State) → length (v n s .nodes) + freshSize F N (v n s) ≡ length (s .nodes) + freshSize F N s
 
   walk-even : (v : ℕ → State → State) → Even v → (t : Tree) (s : State)
-      → length (walk v t s .state .nodes) + fresh-size (walk v t s .state) ≡ length (s .nodes) + size t + fresh-size s
+      → length (walk v t s .state .nodes) + freshSize F N (walk v t s .state) ≡ length (s .nodes) + size t + freshSize F N s
   unfolding walk size
   walk-even v p none s = omega arith
   walk-even v p (part k h l r) s =
@@ -58,7 +56,7 @@ module _ (F : ℕ → Tree) (N : ℕ) where
   visit-even (suc k) = record { grows = visit-in-grow F N (suc k); even = λ n s. go n s (ready F N n s) refl (visit-even k) }
     where
       go : (n : ℕ) (s : State) (b : Bool) → ready F N n s ≡ b → Even (visitIn F N k)
-          → length (wholeIf F N b (visitIn F N k) n s .nodes) + fresh-size (wholeIf F N b (visitIn F N k) n s) ≡ length (s .nodes) + fresh-size s
+          → length (wholeIf F N b (visitIn F N k) n s .nodes) + freshSize F N (wholeIf F N b (visitIn F N k) n s) ≡ length (s .nodes) + freshSize F N s
       go n s true e p =
           let d = ready-true F N n s e in
           let w : Walked = walk (visitIn F N k) (F n) (mark n begun s) in
@@ -70,20 +68,20 @@ module _ (F : ℕ → Tree) (N : ℕ) where
           )
       go n s false e p = refl
 
-  names-even : (n : ℕ) (s : State) → length (namesTo F N n s .nodes) + fresh-size (namesTo F N n s) ≡ length (s .nodes) + fresh-size s
+  names-even : (n : ℕ) (s : State) → length (namesTo F N n s .nodes) + freshSize F N (namesTo F N n s) ≡ length (s .nodes) + freshSize F N s
   unfolding namesTo visit
   names-even zero s = refl
   names-even (suc n) s = visit-even N .even (suc n) (namesTo F N n s) ∙ names-even n s
 
   -- the parts of all the names' trees
   pub parts : ℕ
-  parts = fresh-sum (λ n. size (F n)) N (λ _. fresh)
+  parts = freshSum (λ n. size (F n)) N (λ _. fresh)
 
   -- AS MANY NODES AS PARTS
   pub nodes-parts : length (final F N .nodes) ≡ parts
   unfolding final parts
   nodes-parts =
-      let z : fresh-size (final F N) ≡ 0 = sum-none (λ n. size (F n)) N (final F N .status) (λ m l e. let d = all-done F N m l in not-fresh-done (d .0) e (d .1)) in
+      let z : freshSize F N (final F N) ≡ 0 = sum-none (λ n. size (F n)) N (final F N .status) (λ m l e. let d = all-done F N m l in not-fresh-done (d .0) e (d .1)) in
       omega (arith, names-even N (unwalked F N), z)
 
   pub nodes-le-parts : length (final F N .nodes) ≤ parts
@@ -93,17 +91,17 @@ module _ (F : ℕ → Tree) (N : ℕ) where
   unfolding visit
   even-visit = record { grows = visit-in-grow F N N; even = visit-even N .even }
 
-  pub visit-room : (n : ℕ) (s : State) → length (visit F N n s .nodes) + fresh-size (visit F N n s) ≤ length (s .nodes) + fresh-size s
+  pub visit-room : (n : ℕ) (s : State) → length (visit F N n s .nodes) + freshSize F N (visit F N n s) ≤ length (s .nodes) + freshSize F N s
   visit-room n s = omega (arith, even-visit .even n s)
 
   -- the walk of a name's tree, in the room that its parts were given
   pub walk-room : (t : Tree) (s : State)
-      → length (walk (visit F N) t s .state .nodes) + fresh-size (walk (visit F N) t s .state) ≤ length (s .nodes) + size t + fresh-size s
+      → length (walk (visit F N) t s .state .nodes) + freshSize F N (walk (visit F N) t s .state) ≤ length (s .nodes) + size t + freshSize F N s
   walk-room t s = omega (arith, walk-even (visit F N) even-visit t s)
 
   -- what is walked, if it is not absent, is the last node
-  pub walk-number : (v : ℕ → State → State) (t : Tree) (s : State) → (absent F N t → ⊥) → (1 ≤ walk v t s .number) × (walk v t s .number ≤ length (walk v t s .state .nodes))
-  unfolding walk absent
+  pub walk-number : (v : ℕ → State → State) (t : Tree) (s : State) → (Absent F N t → ⊥) → (1 ≤ walk v t s .number) × (walk v t s .number ≤ length (walk v t s .state .nodes))
+  unfolding walk Absent
   walk-number v none s a = absurd (a tt)
   walk-number v (part k h l r) s a =
       let s1 : State = walk v r s .state in
@@ -114,29 +112,29 @@ module _ (F : ℕ → Tree) (N : ℕ) where
 -- ---- how the number of parts grows while the names are gathered: what bounds the nodes and the stack
 
 pub total : (ℕ → ℕ) → ℕ → ℕ
-total f N = fresh-sum f N (λ _. fresh)
+total f N = freshSum f N (λ _. fresh)
 
 pub parts-total : (F : ℕ → Tree) (N : ℕ) → parts F N ≡ total (λ n. size (F n)) N
 unfolding parts total
 parts-total F N = refl
 
 pub total-none : (f : ℕ → ℕ) → total f 0 ≡ 0
-unfolding total fresh-sum
+unfolding total freshSum
 total-none f = refl
 
 -- one name more
 pub total-more : (f : ℕ → ℕ) (N : ℕ) → total f (suc N) ≡ total f N + f (suc N)
-unfolding total fresh-sum
+unfolding total freshSum
 total-more f N = refl
 
 pub total-same : (f g : ℕ → ℕ) (N : ℕ) → ((m : ℕ) → 1 ≤ m → m ≤ N → g m ≡ f m) → total g N ≡ total f N
-unfolding total fresh-sum
+unfolding total freshSum
 total-same f g zero h = refl
 total-same f g (suc N) h = omega (arith, total-same f g N (λ m a b. h m a (omega arith)), h (suc N) (omega arith) (omega arith))
 
 -- a name gets its first expression: only its own tree changes
 pub total-change : (f g : ℕ → ℕ) (N n : ℕ) → 1 ≤ n → n ≤ N → ((m : ℕ) → m ≢ n → g m ≡ f m) → total g N + f n ≡ total f N + g n
-unfolding total fresh-sum
+unfolding total freshSum
 total-change f g zero n a b h = absurd (omega arith)
 total-change f g (suc N) n a b h = go (same? n (suc N)) (λ q. total-change f g N n a q h)
   where

@@ -19,7 +19,6 @@ use Rattle.walk.specs.Trees.{recordNo, treeOf}
 use Rattle.walk.specs.Nodes.{walked, nodesOf, nodeNo}
 use Rattle.walk.specs.Stands.{PartOf}
 use Rattle.walk.specs.Demand.{ChildrenBefore, NoMissing, OnLoop, MissingOnLoops}
-use Rattle.walk.proofs.Basics.{Legal}
 use Rattle.walk.proofs.Numbered.{same-record, record-at, behind-each}
 use Rattle.walk.proofs.Parts.{Rules, each-node}
 use Rattle.walk.proofs.Standing.{children-before}
@@ -27,6 +26,7 @@ use Rattle.walk.proofs.Ranks.{used-below}
 use Rattle.walk.proofs.Sorted.{sorted, sorted-in, sorted-out, sorted-before}
 use Rattle.walk.proofs.Referring.{Found, line-found, found-line, found-name, reference-of, of-reference}
 use Rattle.walk.proofs.Loops.{sound-line, sound-no-loop}
+use Rattle.walk.specs.Walk.{Legal}
 
 module _ (ls : List Line) where
   abbrev names : List Token
@@ -95,7 +95,7 @@ module _ (ls : List Line) where
         begins = λ n x y e f. inl (ap (λ (t : Token). t .text) (same-record (recordNo (names ls) n) y x f e));
         deeper = deeper;
         stays = λ s t c u a p. tt;
-        absent = λ s. tt;
+        Absent = λ s. tt;
         own = λ s n k h l r a b ln p pa pb. (λ e. absurd (own-kind k e), tt);
         found = λ s n h m j ln p lm e pj. (λ e. absurd (ref-kind e), tt);
         missing = λ s n h m ln p c. (λ e. on-loop n h m _ refl ln p c, tt);

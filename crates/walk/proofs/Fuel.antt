@@ -8,24 +8,16 @@ use native.Mathlib.Omega.{arith}
 use Rattle.walk.specs.Walk.{Head, Own, ownKind, Tree, none, part, refer, Node, Status, fresh, begun, finished, State, Walked, marked, mark, finish, resolve, isFresh, walk}
 use Rattle.walk.specs.Walk.{ready, whole, wholeIf, visitIn, visit, namesTo, unwalked, final}
 use Rattle.walk.proofs.Basics.{same?, marked-same, marked-other, not-fresh-done, not-fresh-begun, not-begun-done}
-use Rattle.walk.proofs.Basics.{Legal, Kept, Grow, kept-fresh, kept-done, kept-begun, grow-refl, grow-trans, Grows, walk-grow, ready-true, ready-intro, whole-grow, visit-in-grow}
-
--- f n summed over the names 1 to n that are fresh
-abbrev pub share : ℕ → Status → ℕ
-share c fresh = c
-share c begun = 0
-share c (finished i) = 0
-
-unfoldable pub fresh-sum : (ℕ → ℕ) → ℕ → (ℕ → Status) → ℕ
-fresh-sum f zero st = 0
-fresh-sum f (suc n) st = fresh-sum f n st + share (f (suc n)) (st (suc n))
+use Rattle.walk.proofs.Basics.{Kept, Grow, kept-fresh, kept-done, kept-begun, grow-refl, grow-trans, Grows, walk-grow, ready-true, ready-intro, whole-grow, visit-in-grow}
+use Rattle.walk.specs.Walk.{Legal}
+use Rattle.walk.specs.Machine.{share, freshSum}
 
 -- how many of the names 1 to n are fresh
 abbrev pub todo : ℕ → (ℕ → Status) → ℕ
-todo n st = fresh-sum (λ _. 1) n st
+todo n st = freshSum (λ _. 1) n st
 
 pub todo-le : (n : ℕ) (st : ℕ → Status) → todo n st ≤ n
-unfolding fresh-sum
+unfolding freshSum
 todo-le zero st = omega arith
 todo-le (suc n) st = omega (arith, todo-le n st, one-le (st (suc n)))
   where
@@ -34,8 +26,8 @@ todo-le (suc n) st = omega (arith, todo-le n st, one-le (st (suc n)))
     one-le begun = omega arith
     one-le (finished i) = omega arith
 
-pub sum-mono : (f : ℕ → ℕ) (n : ℕ) (st st′ : ℕ → Status) → ((m : ℕ) → st′ m ≡ fresh → st m ≡ fresh) → fresh-sum f n st′ ≤ fresh-sum f n st
-unfolding fresh-sum
+pub sum-mono : (f : ℕ → ℕ) (n : ℕ) (st st′ : ℕ → Status) → ((m : ℕ) → st′ m ≡ fresh → st m ≡ fresh) → freshSum f n st′ ≤ freshSum f n st
+unfolding freshSum
 sum-mono f zero st st′ h = omega arith
 sum-mono f (suc n) st st′ h = omega (arith, sum-mono f n st st′ h, one-le (st′ (suc n)) refl)
   where
@@ -45,21 +37,21 @@ sum-mono f (suc n) st st′ h = omega (arith, sum-mono f n st st′ h, one-le (s
     one-le (finished i) e = omega arith
 
 -- a change at a name past n is not seen
-sum-past : (f : ℕ → ℕ) (n m : ℕ) (v : Status) (st : ℕ → Status) → n < m → fresh-sum f n (marked m v st) ≡ fresh-sum f n st
-unfolding fresh-sum
+sum-past : (f : ℕ → ℕ) (n m : ℕ) (v : Status) (st : ℕ → Status) → n < m → freshSum f n (marked m v st) ≡ freshSum f n st
+unfolding freshSum
 sum-past f zero m v st h = refl
 sum-past f (suc n) m v st h =
     let d : suc n ≢ m = omega arith in
     rw (sum-past f n m v st (omega arith), marked-other m v st (suc n) d)
 
 -- to begin a fresh name takes its share out of the sum
-pub sum-begin : (f : ℕ → ℕ) (n m : ℕ) (st : ℕ → Status) → 1 ≤ m → m ≤ n → st m ≡ fresh → fresh-sum f n (marked m begun st) + f m ≡ fresh-sum f n st
-unfolding fresh-sum
+pub sum-begin : (f : ℕ → ℕ) (n m : ℕ) (st : ℕ → Status) → 1 ≤ m → m ≤ n → st m ≡ fresh → freshSum f n (marked m begun st) + f m ≡ freshSum f n st
+unfolding freshSum
 sum-begin f zero m st a b e = absurd (omega arith)
 sum-begin f (suc n) m st a b e = go (same? m (suc n)) (λ b′. sum-begin f n m st a b′ e)
   where
-    go : (m ≡ suc n) ⊎ (m ≢ suc n) → (m ≤ n → fresh-sum f n (marked m begun st) + f m ≡ fresh-sum f n st)
-        → fresh-sum f n (marked m begun st) + share (f (suc n)) (marked m begun st (suc n)) + f m ≡ fresh-sum f n st + share (f (suc n)) (st (suc n))
+    go : (m ≡ suc n) ⊎ (m ≢ suc n) → (m ≤ n → freshSum f n (marked m begun st) + f m ≡ freshSum f n st)
+        → freshSum f n (marked m begun st) + share (f (suc n)) (marked m begun st (suc n)) + f m ≡ freshSum f n st + share (f (suc n)) (st (suc n))
     go (inl p) ih =
         let here : st (suc n) ≡ fresh = ap st (sym p) ∙ e in
         let set : marked m begun st (suc n) ≡ begun = rw (← p) (marked-same m begun st) in
@@ -71,7 +63,7 @@ sum-begin f (suc n) m st a b e = go (same? m (suc n)) (λ b′. sum-begin f n m 
 
 -- to finish a name that is not fresh changes no sum
 pub sum-same : (f : ℕ → ℕ) (n : ℕ) (st st′ : ℕ → Status) → ((m : ℕ) → (st′ m ≡ fresh → st m ≡ fresh) × (st m ≡ fresh → st′ m ≡ fresh))
-    → fresh-sum f n st′ ≡ fresh-sum f n st
+    → freshSum f n st′ ≡ freshSum f n st
 sum-same f n st st′ h = omega (arith, sum-mono f n st st′ (λ m. h m .0), sum-mono f n st′ st (λ m. h m .1))
 
 pub todo-begin : (n m : ℕ) (st : ℕ → Status) → 1 ≤ m → m ≤ n → st m ≡ fresh → suc (todo n (marked m begun st)) ≡ todo n st

@@ -11,9 +11,10 @@ use Rattle.walk.specs.Walk.{Head, Own, ownKind, Tree, none, part, refer,
 use Rattle.walk.specs.Walk.{ready, whole, wholeIf, visitIn, visit, namesTo, unwalked, final}
 use Rattle.walk.specs.Stands.{PartOf}
 use Rattle.walk.proofs.Basics.{same?, marked-same, marked-other, not-fresh-done, not-begun-done}
-use Rattle.walk.proofs.Basics.{Legal, Kept, Grow, kept-fresh, kept-done, kept-begun, Grows, walk-grow, walk-begun, ready-true, visit-in-grow}
+use Rattle.walk.proofs.Basics.{Kept, Grow, kept-fresh, kept-done, kept-begun, Grows, walk-grow, walk-begun, ready-true, visit-in-grow}
 use Rattle.walk.proofs.Fuel.{left-to-do, grow-todo, todo-begin, todo-le, visit-in-done, top-not-begun}
 use Rattle.walk.proofs.Numbered.{EachBehind, behind-none, behind-snoc}
+use Rattle.walk.specs.Walk.{Legal}
 
 -- t comes after s: the nodes of s stand first, and a name that was finished is finished with the same number
 pub record After (s t : State) : Type 0 where
@@ -31,7 +32,7 @@ pub record Rules (F : ℕ → Tree) (N : ℕ) (Q : List Node → Node → Type 0
   pub begins : (n : ℕ) → C n n
   pub deeper : (b n m : ℕ) (h : Head) → Legal N n → Legal N m → PartOf (refer h m) (F n) → C b n → C b m
   pub stays : (s t : State) (c : ℕ) (u : Tree) → After s t → P s c u → P t c u
-  pub absent : (s : State) → P s 0 none
+  pub Absent : (s : State) → P s 0 none
   pub own : (s : State) (n : ℕ) (k : Own) (h : Head) (l r : Tree) (a b : ℕ) → Legal N n → PartOf (part k h l r) (F n)
       → P s a l → P s b r → Made Q P s (record { kind = ownKind k; head = h; left = a; right = b }) (part k h l r)
   pub found : (s : State) (n : ℕ) (h : Head) (m j : ℕ) → Legal N n → PartOf (refer h m) (F n)
@@ -79,7 +80,7 @@ module _ (F : ℕ → Tree) (N : ℕ) (Q : List Node → Node → Type 0) (P : S
       → (t : Tree) → ((u : Tree) → PartOf u t → PartOf u (F n))
       → (s : State) → left-to-do F N s ≤ c → Good s → Open n s → Result t (walk v t s)
   unfolding walk PartOf
-  walk-good c v vs n ln none sub s h g o = record { good = g; stands = rules .absent s }
+  walk-good c v vs n ln none sub s h g o = record { good = g; stands = rules .Absent s }
   walk-good c v vs n ln (part k hd l r) sub s h g o =
       let s1 : State = walk v r s .state in
       let g1 : Grow N s s1 = walk-grow N v (vs .grows) r s in

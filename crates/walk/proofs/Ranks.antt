@@ -11,11 +11,12 @@ use Rattle.grammar.specs.Places.{Each}
 use Rattle.walk.specs.Walk.{Head, Own, ownKind, Tree, part, refer, Node, fresh, finished, State, finish, resolve, final}
 use Rattle.walk.specs.Trees.{recordNo}
 use Rattle.walk.specs.Nodes.{nodeNo}
-use Rattle.walk.specs.Stands.{PartOf, Legal}
+use Rattle.walk.specs.Stands.{PartOf}
 use Rattle.walk.proofs.Basics.{length-snoc}
 use Rattle.walk.proofs.Fuel.{all-done}
 use Rattle.walk.proofs.Numbered.{record-front, record-last, record-each}
 use Rattle.walk.proofs.Parts.{After, Rules, each-name}
+use Rattle.walk.specs.Walk.{Legal}
 
 -- some node of xs is missing
 abbrev HasMissing : List Node → Type 0
@@ -42,7 +43,7 @@ module _ (F : ℕ → Tree) (N : ℕ) where
         begins = λ n. tt;
         deeper = λ b n m h ln lm p c. tt;
         stays = λ s t c u a p. (omega (arith, p .0, ap length (a .nodes), length-append (s .nodes) (a .more)), λ h m q. below-after s t c c m a (omega arith) (p .1 h m q));
-        absent = λ s. (omega arith, λ h m q. absurd q);
+        Absent = λ s. (omega arith, λ h m q. absurd q);
         own = λ s n k h l r a b ln p pa pb.
             let x : Node = record { kind = ownKind k; head = h; left = a; right = b } in
             (tt, (omega (arith, length-snoc (s .nodes) x), λ g m q. parts s k h l r a b x pa pb g m q));
@@ -72,13 +73,13 @@ module _ (F : ℕ → Tree) (N : ℕ) where
       parts s k h l r a b x pa pb g m (inr (inr q)) = below-after s (finish x s .state) b (suc (length (s .nodes))) m (next s x) (omega (arith, pb .0)) (pb .1 g m q)
 
   -- A NAME USED HAS A LEGAL LINE AND A LOWER NODE
-  pub used-below : Each (λ (x : Node). x .kind ≢ node.missing) (final F N .nodes) → (n : ℕ) → Legal F N n → (h : Head) (m : ℕ) → PartOf (refer h m) (F n)
-      → Legal F N m × (nodeNo (final F N .status m) < nodeNo (final F N .status n))
+  pub used-below : Each (λ (x : Node). x .kind ≢ node.missing) (final F N .nodes) → (n : ℕ) → Legal N n → (h : Head) (m : ℕ) → PartOf (refer h m) (F n)
+      → Legal N m × (nodeNo (final F N .status m) < nodeNo (final F N .status n))
   used-below clean n l h m p =
       let d = all-done F N n l in
       go (d .0) (d .1) (each-name F N (λ xs x. Unit {0}) UsesBelow (λ b n. Unit {0}) rules n (d .0) (d .1) .1 .1 h m p)
     where
-      go : (i : ℕ) → final F N .status n ≡ finished i → Below (final F N) i m → Legal F N m × (nodeNo (final F N .status m) < nodeNo (final F N .status n))
+      go : (i : ℕ) → final F N .status n ≡ finished i → Below (final F N) i m → Legal N m × (nodeNo (final F N .status m) < nodeNo (final F N .status n))
       go i e (inl b) =
           (each-name F N (λ xs x. Unit {0}) UsesBelow (λ b n. Unit {0}) rules m (b .0) (b .1) .0, rw (e, b .1) (b .2))
       go i e (inr b) = absurd (record-each (λ (x : Node). x .kind ≢ node.missing) (final F N .nodes) (b .0) (b .1) clean (b .2) (b .3))

@@ -18,8 +18,8 @@ use Rattle.walk.specs.Walk as walk
 use Rattle.walk.specs.Walk.{Head, Tree}
 use Rattle.walk.specs.Trees.{head, numbered, outermost, treeBy, recordNo, treeIf, treeOf}
 use Rattle.walk.specs.Stands.{PartOf}
-use Rattle.walk.proofs.Basics.{Legal}
 use Rattle.walk.proofs.Numbered.{same-record, record-bounds}
+use Rattle.walk.specs.Walk.{Legal}
 
 -- ---- numbers and texts of names
 

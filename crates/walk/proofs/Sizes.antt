@@ -26,10 +26,10 @@ use Rattle.walk.specs.Walk.{Tree}
 use Rattle.walk.specs.Trees.{recordNo, numbered, outermost, treeBy, treeOf}
 use Rattle.walk.specs.Nodes.{walked, nodesOf}
 use Rattle.walk.specs.Stands.{partsFor, sum, partsOf}
-use Rattle.walk.proofs.Machine.{size}
 use Rattle.walk.proofs.Count.{nodes-parts, total, parts-total, total-none, total-more}
 use Rattle.walk.proofs.Numbered.{not-there}
 use Rattle.walk.proofs.Referring.{tree-at}
+use Rattle.walk.specs.Machine.{size}
 
 -- ---- the parts of the trees are those of the expressions
 

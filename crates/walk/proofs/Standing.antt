@@ -11,11 +11,12 @@ use Rattle.records.specs.NodeKind as node
 use Rattle.grammar.specs.Places.{Each, numbered}
 use Rattle.walk.specs.Walk.{Head, Own, ownKind, Tree, none, part, refer, Node, fresh, finished, State, resolve, final}
 use Rattle.walk.specs.Trees.{recordNo}
-use Rattle.walk.specs.Stands.{PartOf, Points, Legal, StandsFor, Stands}
+use Rattle.walk.specs.Stands.{PartOf, Points, StandsFor, Stands}
 use Rattle.walk.specs.Demand.{Later}
 use Rattle.walk.proofs.Fuel.{all-done}
 use Rattle.walk.proofs.Numbered.{record-bounds, record-front, record-last, behind-each, behind-numbered}
 use Rattle.walk.proofs.Parts.{Made, Rules, each-node, each-name}
+use Rattle.walk.specs.Walk.{Legal}
 
 -- ---- the node of a tree, with more nodes behind
 
@@ -36,8 +37,8 @@ module _ (F : ℕ → Tree) (N : ℕ) where
   stands-more xs ys x (part k h l r) p = (p .0, p .1, points-more xs ys (x .left) l (p .2), points-more xs ys (x .right) r (p .3))
   stands-more xs ys x (refer h m) p = (p .0, p .1, go (p .2))
     where
-      go : ((x .kind ≡ node.ref) × Legal F N m × Points xs (x .left) (F m)) ⊎ ((x .kind ≡ node.missing) × (x .left ≡ 0))
-          → ((x .kind ≡ node.ref) × Legal F N m × Points (xs ++ ys) (x .left) (F m)) ⊎ ((x .kind ≡ node.missing) × (x .left ≡ 0))
+      go : ((x .kind ≡ node.ref) × Legal N m × Points xs (x .left) (F m)) ⊎ ((x .kind ≡ node.missing) × (x .left ≡ 0))
+          → ((x .kind ≡ node.ref) × Legal N m × Points (xs ++ ys) (x .left) (F m)) ⊎ ((x .kind ≡ node.missing) × (x .left ≡ 0))
       go (inl q) = inl (q .0, q .1, points-more xs ys (x .left) (F m) (q .2))
       go (inr q) = inr q
 
@@ -68,7 +69,7 @@ module _ (F : ℕ → Tree) (N : ℕ) where
         deeper = λ b n m h ln lm p c. tt;
         stays = λ s t c u a p. subst (λ (l : List Node). Points l c u × ((v : Tree) → PartOf v u → HasNode l v)) (sym (a .nodes))
             (points-more (s .nodes) (a .more) c u (p .0), λ v q. has-more (s .nodes) (a .more) v (p .1 v q));
-        absent = λ s. (refl, λ u q. absurd q);
+        Absent = λ s. (refl, λ u q. absurd q);
         own = λ s n k h l r a b ln p pa pb.
             let x : Node = record { kind = ownKind k; head = h; left = a; right = b } in
             let st : StandsFor F N (s .nodes) x (part k h l r) = (refl, refl, pa .0, pb .0) in (
@@ -92,7 +93,7 @@ module _ (F : ℕ → Tree) (N : ℕ) where
       parts s k h l r x st pl pr u (inr (inl q)) = has-more (s .nodes) (x ∷ []) u (pl u q)
       parts s k h l r x st pl pr u (inr (inr q)) = has-more (s .nodes) (x ∷ []) u (pr u q)
 
-      alone : (s : State) (n : ℕ) (h : Head) (m : ℕ) (x : Node) → Legal F N n → PartOf (refer h m) (F n) → x .head ≡ h
+      alone : (s : State) (n : ℕ) (h : Head) (m : ℕ) (x : Node) → Legal N n → PartOf (refer h m) (F n) → x .head ≡ h
           → StandsFor F N (s .nodes) x (refer h m) → Made (Stands F N) Placed s x (refer h m)
       alone s n h m x ln p e st = (
         record { holder = n; legal = ln; tree = refer h m; inside = p; for = st },
@@ -114,13 +115,13 @@ module _ (F : ℕ → Tree) (N : ℕ) where
       (each-node F N (Stands F N) Placed (λ b n. Unit {0}) rules)
 
   -- EACH NAME IS FINISHED, WITH THE NODE OF ITS TREE
-  pub every-name-finished : (n : ℕ) → Legal F N n → (i : ℕ) × (final F N .status n ≡ finished i) × Points (final F N .nodes) i (F n)
+  pub every-name-finished : (n : ℕ) → Legal N n → (i : ℕ) × (final F N .status n ≡ finished i) × Points (final F N .nodes) i (F n)
   every-name-finished n l =
       let d = all-done F N n l in
       (d .0, d .1, each-name F N (Stands F N) Placed (λ b n. Unit {0}) rules n (d .0) (d .1) .1 .0)
 
   -- EACH PART HAS A NODE
-  pub each-part-has-node : (n : ℕ) → Legal F N n → (t : Tree) → PartOf t (F n) → HasNode (final F N .nodes) t
+  pub each-part-has-node : (n : ℕ) → Legal N n → (t : Tree) → PartOf t (F n) → HasNode (final F N .nodes) t
   each-part-has-node n l =
       let d = all-done F N n l in
       each-name F N (Stands F N) Placed (λ b n. Unit {0}) rules n (d .0) (d .1) .1 .1
@@ -137,6 +138,6 @@ module _ (F : ℕ → Tree) (N : ℕ) where
       low xs x (part k h l r) p = (omega (arith, points-low xs (x .left) l (p .2)), omega (arith, points-low xs (x .right) r (p .3)))
       low xs x (refer h m) p = (go (p .2), omega (arith, p .1))
         where
-          go : ((x .kind ≡ node.ref) × Legal F N m × Points xs (x .left) (F m)) ⊎ ((x .kind ≡ node.missing) × (x .left ≡ 0)) → x .left < suc (length xs)
+          go : ((x .kind ≡ node.ref) × Legal N m × Points xs (x .left) (F m)) ⊎ ((x .kind ≡ node.missing) × (x .left ≡ 0)) → x .left < suc (length xs)
           go (inl q) = omega (arith, points-low xs (x .left) (F m) (q .2))
           go (inr q) = omega (arith, q .1)

@@ -1,4 +1,5 @@
 pub mod Walk
+pub mod Machine
 pub mod Trees
 pub mod Nodes
 pub mod Stands

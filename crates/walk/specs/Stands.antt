@@ -12,7 +12,7 @@ use Rattle.grammar.specs.Tree.{Expr, Line}
 use Rattle.grammar.specs.Part.{partOf, weight}
 use Rattle.grammar.specs.Places.{Each, numbered}
 use Rattle.names.specs.Names.{namesOf, firstExpression}
-use Rattle.walk.specs.Walk.{Head, Own, ownKind, Tree, none, part, refer, Node}
+use Rattle.walk.specs.Walk.{Head, Own, ownKind, Tree, none, part, refer, Node, Legal}
 use Rattle.walk.specs.Trees.{treeOf, recordNo}
 use Rattle.walk.specs.Nodes.{nodesOf}
 
@@ -34,9 +34,6 @@ Points xs c (refer h m) = Shows xs c h
 
 -- F n is the tree of the name n; the names that have a legal line are 1 to N
 module _ (F : ℕ → Tree) (N : ℕ) where
-  abbrev pub Legal : (n : ℕ) → Type 0
-  Legal n = (1 ≤ n) × (n ≤ N)
-
   -- The node x stands for the tree t: it has its head, its own kind and the nodes of its children; a reference is a reference
   -- node of the name's outermost node, or it is missing.
   unfoldable pub StandsFor : List Node → Node → Tree → Type 0
@@ -44,12 +41,12 @@ module _ (F : ℕ → Tree) (N : ℕ) where
   StandsFor xs x (part k h l r) = (x .kind ≡ ownKind k) × (x .head ≡ h) × Points xs (x .left) l × Points xs (x .right) r
   StandsFor xs x (refer h m) =
       (x .head ≡ h) × (x .right ≡ 0)
-      × (((x .kind ≡ node.ref) × Legal m × Points xs (x .left) (F m)) ⊎ ((x .kind ≡ node.missing) × (x .left ≡ 0)))
+      × (((x .kind ≡ node.ref) × Legal N m × Points xs (x .left) (F m)) ⊎ ((x .kind ≡ node.missing) × (x .left ≡ 0)))
 
   -- the node x stands for a part of a name's tree
   pub record Stands (xs : List Node) (x : Node) : Type 0 where
     pub holder : ℕ
-    pub legal : Legal holder
+    pub legal : Legal N holder
     pub tree : Tree
     pub inside : PartOf tree (F holder)
     pub for : StandsFor xs x tree

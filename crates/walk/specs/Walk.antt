@@ -1,6 +1,6 @@
 -- Document 01, Names and nodes: the walk. The names 1 to N, each with a tree, become nodes, numbered as finished. The Rust's
 -- step 2.
-use Prim.Native.Nat.{ℕ, zero, suc}
+use Prim.Native.Nat.{ℕ, zero, suc, _≤_}
 use mathlib.Core.Bool.{Bool, true, false, _&&_}
 use mathlib.Core.List.{List, [], _∷_, _++_}
 use lib.ListN.{length}
@@ -88,7 +88,11 @@ isFresh fresh = true
 isFresh begun = false
 isFresh (finished i) = false
 
--- F n is the tree of the name n; the names that have a legal line are 1 to N
+-- the name number n has a legal line: the names that have one are 1 to N
+abbrev pub Legal : (N n : ℕ) → Type 0
+Legal N n = (1 ≤ n) × (n ≤ N)
+
+-- F n is the tree of the name n
 module _ (F : ℕ → Tree) (N : ℕ) where
   -- it has a legal line and is not yet begun
   abbrev pub ready : (n : ℕ) → State → Bool
