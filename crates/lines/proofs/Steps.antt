@@ -32,9 +32,9 @@ use Rattle.lines.specs.Answers.{tailBy, lineHeadBy}
 -- ---- behind a name
 
 module _ (end : ℕ) (x : Span) (c : Cursor) (a : Ahead) (ts : List Token) (e : a ≡ peeked c ts) where
-  pub tail-end : a ≡ End → NoLine (refusalAt end ParseFailed []) ≡ tailBy end x c ts
+  pub tail-end : (q : LineHead) → q ≡ NoLine (refusalAt end ParseFailed ts) → a ≡ End → q ≡ tailBy end x c ts
   unfolding tailBy
-  tail-end f = rw (ahead-end c a ts e f)
+  tail-end q w f = w ∙ rw (ahead-end c a ts e f)
 
   module _ (r : TokenRecord) (d : Cursor) (f : a ≡ Next r d) where
     ahead : (u : Token) × (rest : List Token) × (ts ≡ u ∷ rest) × (r ≡ recordOf u) × (d ≡ stepped c)
@@ -59,11 +59,11 @@ module _ (end : ℕ) (x : Span) (c : Cursor) (a : Ahead) (ts : List Token) (e : 
           let one : tailBy end x c (ahead .0 ∷ ahead .1) ≡ Declared x (stepped c) = rw (is-not (token.number token.assign) no, is (token.number token.colon) h) in
           ap (Declared x) (ahead .4) ∙ sym one ∙ ap (tailBy end x c) (sym (ahead .2))
 
-      pub tail-other : ¬ (r .kind .0 ≡ token.number token.colon) → NoLine (record { fault = ParseFailed; at = r .span .start }) ≡ tailBy end x c ts
+      pub tail-other : (q : LineHead) → q ≡ NoLine (refusalAt end ParseFailed ts) → ¬ (r .kind .0 ≡ token.number token.colon) → q ≡ tailBy end x c ts
       unfolding tailBy
-      tail-other h =
+      tail-other q w h =
           let one : tailBy end x c (ahead .0 ∷ ahead .1) ≡ NoLine (refusalAt end ParseFailed (ahead .0 ∷ ahead .1)) = rw (is-not (token.number token.assign) no, is-not (token.number token.colon) h) in
-          ap (λ (q : TokenRecord). NoLine (record { fault = ParseFailed; at = q .span .start })) (ahead .3) ∙ sym one ∙ ap (tailBy end x c) (sym (ahead .2))
+          w ∙ ap (λ (us : List Token). NoLine (refusalAt end ParseFailed us)) (ahead .2) ∙ sym one ∙ ap (tailBy end x c) (sym (ahead .2))
 
 -- ---- at a line's beginning
 
@@ -71,9 +71,9 @@ module _ (s t : List ℕ) (n : ℕ) (c : Cursor) (a : Ahead) (e : a ≡ peeked c
   abbrev ts : List Token
   ts = tokensLeft s t n (c .token .0)
 
-  pub head-end : a ≡ End → NoLine (refusalAt (length s) ParseFailed []) ≡ lineHeadBy (length s) c ts
+  pub head-end : (q : LineHead) → q ≡ NoLine (refusalAt (length s) ParseFailed ts) → a ≡ End → q ≡ lineHeadBy (length s) c ts
   unfolding lineHeadBy
-  head-end f = rw (ahead-end c a ts e f)
+  head-end q w f = w ∙ rw (ahead-end c a ts e f)
 
   module _ (r : TokenRecord) (d : Cursor) (b : Bool) (f : a ≡ Next r d) (named : b ≡ isOf (ofKind (r .kind)) names) where
     first : (u : Token) × (rest : List Token) × (ts ≡ u ∷ rest) × (r ≡ recordOf u) × (d ≡ stepped c)
@@ -93,8 +93,8 @@ module _ (s t : List ℕ) (n : ℕ) (c : Cursor) (a : Ahead) (e : a ≡ peeked c
         ∙ ap (λ (q : TokenRecord). tailBy (length s) (q .span) (stepped c) (tokensLeft s t n (c .token .0 + 1))) (first .3)
         ∙ ap (tailBy (length s) (spanOf (first .0)) (stepped c)) left ∙ sym one ∙ ap (lineHeadBy (length s) c) (sym (first .2))
 
-    pub head-other : b ≡ false → NoLine (record { fault = ParseFailed; at = r .span .start }) ≡ lineHeadBy (length s) c ts
+    pub head-other : (q : LineHead) → q ≡ NoLine (refusalAt (length s) ParseFailed ts) → b ≡ false → q ≡ lineHeadBy (length s) c ts
     unfolding lineHeadBy
-    head-other eb =
+    head-other q w eb =
         let one : lineHeadBy (length s) c (first .0 ∷ first .1) ≡ NoLine (refusalAt (length s) ParseFailed (first .0 ∷ first .1)) = rw (says ∙ eb) in
-        ap (λ (q : TokenRecord). NoLine (record { fault = ParseFailed; at = q .span .start })) (first .3) ∙ sym one ∙ ap (lineHeadBy (length s) c) (sym (first .2))
+        w ∙ ap (λ (us : List Token). NoLine (refusalAt (length s) ParseFailed us)) (first .2) ∙ sym one ∙ ap (lineHeadBy (length s) c) (sym (first .2))

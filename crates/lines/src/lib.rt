@@ -5,7 +5,9 @@ ghost use lib.ListN.{length};
 ghost use Rattle.records.specs.Limits.{sourceLimit};
 ghost use Rattle.checks.specs.Checks.{checksOf};
 ghost use Rattle.cursor.specs.Tokens.{tokensLeft};
-ghost use Rattle.cursor.specs.Cursor.{Ready};
+ghost use Rattle.checks.specs.declared.Fault.the-variants.{ParseFailed};
+ghost use Rattle.cursor.specs.Cursor.{Ready, refusalAt};
+ghost use Rattle.lines.specs.declared.LineHead.the-variants.{Refused as NoLine};
 ghost use Rattle.grammar.specs.Grammar.{line};
 ghost use Rattle.lines.specs.Answers.{LineReads, tailBy, lineHeadBy, lineBy};
 use arrows::ArrowAnswer;
@@ -18,7 +20,6 @@ use records::LineRecord;
 use records::Span;
 use records::kinds::TokenKind;
 use records::limits::Limits;
-use records::numbers::ByteOffset;
 use records::numbers::ExprNo;
 
 // What begins a line: a name and `:=`, or a name and `:`; and the cursor behind them.
@@ -34,20 +35,23 @@ pub enum LineAnswer {
     Refused(ParseRefusal),
 }
 
+// Refuses what stands at the cursor.
+fn no_line(source: &[u8], tokens: &[u32], count: u32, c: Cursor) -> LineHead
+    requires { ⌜ length (now source) ≤ sourceLimit ⌝ }
+    ensures { λ r. ⌜ r ≡ NoLine (refusalAt (length (now (source .entry))) ParseFailed (tokensLeft (now (source .entry)) (now (tokens .entry)) count (c .token .0))) ⌝ }
+{
+    LineHead::Refused(cursor::refusal(source, tokens, count, c, Fault::ParseFailed))
+}
+
 // What follows the name of a line.
 fn line_tail(source: &[u8], tokens: &[u32], count: u32, name: Span, c: Cursor) -> LineHead
     requires { ⌜ length (now source) ≤ sourceLimit ⌝ }
     ensures { λ r. ⌜ r ≡ tailBy (length (now (source .entry))) name c (tokensLeft (now (source .entry)) (now (tokens .entry)) count (c .token .0)) ⌝ }
 {
     match cursor::peek(source, tokens, count, c) {
-        Ahead::End => LineHead::Refused(ParseRefusal {
-            fault: Fault::ParseFailed,
-            at: ByteOffset(source.len() as u32),
-        }),
+        Ahead::End => no_line(source, tokens, count, c),
         Ahead::Next(t, d) => {
             let kind = t.kind;
-            let span = t.span;
-            let at = span.start;
             let k = kind.0;
             if k == TokenKind::ASSIGN {
                 return LineHead::Defined(name, d);
@@ -55,10 +59,7 @@ fn line_tail(source: &[u8], tokens: &[u32], count: u32, name: Span, c: Cursor) -
             if k == TokenKind::COLON {
                 return LineHead::Declared(name, d);
             }
-            LineHead::Refused(ParseRefusal {
-                fault: Fault::ParseFailed,
-                at,
-            })
+            no_line(source, tokens, count, c)
         }
     }
 }
@@ -69,21 +70,14 @@ fn line_head(source: &[u8], tokens: &[u32], count: u32, c: Cursor) -> LineHead
     ensures { λ r. ⌜ r ≡ lineHeadBy (length (now (source .entry))) c (tokensLeft (now (source .entry)) (now (tokens .entry)) count (c .token .0)) ⌝ }
 {
     match cursor::peek(source, tokens, count, c) {
-        Ahead::End => LineHead::Refused(ParseRefusal {
-            fault: Fault::ParseFailed,
-            at: ByteOffset(source.len() as u32),
-        }),
+        Ahead::End => no_line(source, tokens, count, c),
         Ahead::Next(t, d) => {
             let kind = t.kind;
             let span = t.span;
-            let at = span.start;
             if cursor::is_name(kind) {
                 return line_tail(source, tokens, count, span, d);
             }
-            LineHead::Refused(ParseRefusal {
-                fault: Fault::ParseFailed,
-                at,
-            })
+            no_line(source, tokens, count, c)
         }
     }
 }

@@ -14,7 +14,7 @@ use Rattle.records.specs.declared.ErrorRecord.{ErrorRecord}
 use Rattle.tables.specs.Tables.{wordAt, written}
 use Rattle.checks.specs.Literals.{spanText}
 use Rattle.cursor.specs.Cursor.{nextNumber}
-use Rattle.names.specs.Names.{illegal, findFrom}
+use Rattle.names.specs.Names.{illegal, findFrom, errorRecord}
 use Rattle.names.specs.Held.{spanAt, textsFrom}
 use Rattle.names.specs.declared.NameCounts.{NameCounts}
 use Rattle.names.specs.declared.Entry.{Entry}
@@ -24,7 +24,7 @@ abbrev pub nameOf : Span → (expr : ℕ) → NameRecord
 nameOf s e = record { span = s; expr = record { 0 = e }; node = record { 0 = 0 } }
 
 abbrev pub errorOf : error.Kind → (start : ℕ) → Span → ErrorRecord
-errorOf k at s = record { kind = record { 0 = error.number k }; start = record { 0 = at }; name = s }
+errorOf k at s = errorRecord (record { kind = k; start = at; name = s })
 
 -- the name k is known already: a first expression counts, a later one is an error
 unfoldable pub knownEntry : (exprs names : List ℕ) → (k : ℕ) → Span → (expr : ℕ) → Entry
