@@ -66,7 +66,8 @@ unfolding opened Refers
 used-inside = (record { kind = record { 0 = token.number token.symbol }; start = 24; text = bytes "a" }, ((refl, inl refl), inr refl), refl)
 
 -- a hole is none, nor is a type's name, nor a reference in a later expression
-pub hole-unused : Uses (linesOf "main := ?a : a -> a main := a") (bytes "main") (bytes "a") → ⊥
+pub hole-unused : Uses (linesOf "main := take?a : a -> a main := a") (bytes "main") (bytes "a") → ⊥
 unfolding opened Refers
-hole-unused (t, (h, inl r), e) = r
+hole-unused (t, (h, inl (inl r)), e) = r
+hole-unused (t, (h, inl (inr r)), e) = r
 hole-unused (t, (h, inr r), e) = r

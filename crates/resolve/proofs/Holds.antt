@@ -22,7 +22,7 @@ use Rattle.names.proofs.Laws.{names-few, find-is, find-first, find-stands, text
 use Rattle.walk.specs.Walk.{Head, Node, Status, fresh, begun, finished, State, marked, mark, finish, resolve}
 use Rattle.walk.specs.Nodes.{nodeRecord}
 use Rattle.walk.proofs.Basics.{same?, marked-same, marked-other, length-snoc}
-use Rattle.resolve.specs.Words.{usedIn, placeIn, spanIn, nodeIn, nodesWith, statusWord, namesWith, targetOf, referenceKind, begunWord}
+use Rattle.resolve.specs.Words.{usedIn, placeIn, spanIn, nodeIn, nodesWith, statusWord, namesWith, finishedNode, referenceKind, begunWord}
 use Rattle.resolve.specs.Turns.{Given, names-of, total, headAt, usedAt, nameNo, Named, Waits, Stack, Sane, Holds, freshRow}
 use Rattle.resolve.proofs.Names.{word-start, span-of, word-status, word-expr, names-marked, texts-same}
 use Rattle.tables.proofs.Words.{word-none}
@@ -49,12 +49,12 @@ word-fresh (finished i) h e = let a = h i refl in absurd (omega arith)
 
 -- the node of a reference, by its name's status word
 pub resolved : (h : Head) (v : Status) → ((i : ℕ) → v ≡ finished i → (1 ≤ i) × (i ≤ recordLimit)) → (w : ℕ) → w ≡ statusWord v
-    → (referenceKind (targetOf w) ≡ node.number (resolve h v .kind)) × (targetOf w ≡ resolve h v .left) × (resolve h v .right ≡ 0) × (resolve h v .head ≡ h)
+    → (referenceKind (finishedNode w) ≡ node.number (resolve h v .kind)) × (finishedNode w ≡ resolve h v .left) × (resolve h v .right ≡ 0) × (resolve h v .head ≡ h)
 resolved h fresh k w e = (rw e, rw e, refl, refl)
 resolved h begun k w e = (rw e, rw e, refl, refl)
 resolved h (finished i) k w e =
     let a = k i refl in
-    let b : targetOf w ≡ i = ap targetOf e ∙ rw (ne-eqb i begunWord (λ q. omega arith)) in
+    let b : finishedNode w ≡ i = ap finishedNode e ∙ rw (ne-eqb i begunWord (λ q. omega arith)) in
     (ap referenceKind b ∙ rw (ne-eqb i 0 (λ q. omega arith)), b, refl, refl)
 
 module _ {source es : List ℕ} {count : ℕ} (w : Given source es count) where

@@ -15,13 +15,13 @@ use Rattle.tables.specs.Tables.{wordAt, written}
 use Rattle.checks.specs.Literals.{spanText}
 use Rattle.names.specs.Names.{findFrom}
 use Rattle.names.specs.Held.{spanAt, textsFrom}
-use Rattle.resolve.specs.Words.{usedIn, kindIn, spanIn, placeIn, targetOf, referenceKind, begunWord, oneMore, nodeAt, withParent, bumped, namesWith}
+use Rattle.resolve.specs.Words.{usedIn, kindIn, spanIn, placeIn, finishedNode, referenceKind, begunWord, oneMore, nodeAt, withParent, bumped, namesWith}
 
-pub target-begun : {w : ℕ} → w ≡ begunWord → 0 ≡ targetOf w
-target-begun {w} h = rw (eq-eqb w begunWord h)
+pub finished-begun : {w : ℕ} → w ≡ begunWord → 0 ≡ finishedNode w
+finished-begun {w} h = rw (eq-eqb w begunWord h)
 
-pub target-other : {w : ℕ} → (w ≡ begunWord → ⊥) → w ≡ targetOf w
-target-other {w} h = rw (ne-eqb w begunWord h)
+pub finished-other : {w : ℕ} → (w ≡ begunWord → ⊥) → w ≡ finishedNode w
+finished-other {w} h = rw (ne-eqb w begunWord h)
 
 pub kind-missing : {i : ℕ} → i ≡ 0 → node.number node.missing ≡ referenceKind i
 kind-missing {i} h = rw (eq-eqb i 0 h)

@@ -20,7 +20,7 @@ use Rattle.walk.proofs.Basics.{ready-true, ready-intro, not-begun-done}
 use Rattle.walk.proofs.Machine.{room-down, room-up}
 use Rattle.resolve.specs.declared.StackItem.{StackItem}
 use Rattle.resolve.specs.declared.Walker.{Walker}
-use Rattle.resolve.specs.Words.{itemWords, itemAt, downWalker, upWalker, leftItem, leftWalker, doneWalker, usedIn, kindIn, nodesWith, statusWord, namesWith, targetOf, referenceKind, begunWord, freshName}
+use Rattle.resolve.specs.Words.{itemWords, itemAt, downWalker, upWalker, leftItem, leftWalker, doneWalker, usedIn, kindIn, nodesWith, statusWord, namesWith, finishedNode, referenceKind, begunWord, freshName}
 use Rattle.resolve.specs.Turns.{Given, total, trees, headAt, usedAt, Owns, Named, StandsFor, Waits, Holds, Reads, Fits, Turns, isRunning}
 use Rattle.resolve.proofs.Tables.{next-is}
 use Rattle.resolve.proofs.Holds.{used-le, used-is, status-is, expr-is, word-fresh, resolved, holds-node, holds-mark, holds-push, holds-pop, top-waits, waits-for}
@@ -171,7 +171,7 @@ refer-begin source es count g q nm nd wk nm' wk' m v i e u k3 hm hv fr hi hw he 
 
 -- any other reference
 pub refer-node : (source es : List ℕ) (count : ℕ) (g q : Walker) (nm nd wk nd' : List ℕ) (m v i l k : ℕ) → g .up ≡ false → wordAt exprWidth es (g .expr .0) 0 ≡ 3
-    → m ≡ usedIn source es nm count (g .expr .0) → v ≡ wordAt nameWidth nm m 3 → freshName m v ≡ false → l ≡ targetOf v → k ≡ referenceKind l
+    → m ≡ usedIn source es nm count (g .expr .0) → v ≡ wordAt nameWidth nm m 3 → freshName m v ≡ false → l ≡ finishedNode v → k ≡ referenceKind l
     → nd' ≡ nodesWith es nm nd (g .made) k (g .expr .0) (g .name .0) l 0 → i ≡ nextNumber (g .made) → q ≡ upWalker i (g .waiting) i
     → Turns source es count g nm nd wk q nm nd' wk
 unfolding Turns Reads step atReference
@@ -212,7 +212,7 @@ refer-node source es count g q nm nd wk nd' m v i l k u k3 hm hv fr hl hk hn hi 
             x : Node
             x = resolve (a .0) (s .status m)
 
-            res : (referenceKind (targetOf v) ≡ node.number (resolve (a .0) (s .status m) .kind)) × (targetOf v ≡ resolve (a .0) (s .status m) .left) × (resolve (a .0) (s .status m) .right ≡ 0) × (resolve (a .0) (s .status m) .head ≡ a .0)
+            res : (referenceKind (finishedNode v) ≡ node.number (resolve (a .0) (s .status m) .kind)) × (finishedNode v ≡ resolve (a .0) (s .status m) .left) × (resolve (a .0) (s .status m) .right ≡ 0) × (resolve (a .0) (s .status m) .head ≡ a .0)
             res = resolved (a .0) (s .status m) (r .2 .sane .1 m) v v-is
 
             room : length (s .nodes) < recordLimit

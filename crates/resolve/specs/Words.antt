@@ -115,10 +115,10 @@ statusWord begun = begunWord
 statusWord (finished i) = i
 
 -- the node that a reference gets as its child, by its name's status word; 0 if none
-abbrev pub targetOf : (status : ℕ) → ℕ
-targetOf w = if eqb w begunWord then 0 else w
+abbrev pub finishedNode : (status : ℕ) → ℕ
+finishedNode w = if eqb w begunWord then 0 else w
 
-abbrev pub referenceKind : (target : ℕ) → ℕ
+abbrev pub referenceKind : (node : ℕ) → ℕ
 referenceKind i = if eqb i 0 then node.number node.missing else node.number node.ref
 
 -- a name that has a legal line, and a fresh status

@@ -9,7 +9,7 @@ ghost use Rattle.records.specs.NodeKind as node;
 ghost use Rattle.tables.specs.Tables.{wordAt, written};
 ghost use Rattle.grammar.specs.Tree.{Line};
 ghost use Rattle.names.specs.Held.{spanAt};
-ghost use Rattle.resolve.specs.Words.{itemWords, itemAt, leftItem, downWalker, upWalker, leftWalker, doneWalker, usedIn, kindIn, spanIn, placeIn, nodesWith, targetOf, referenceKind, freshName, namesWith, begunWord, oneMore, nodeAt, withParent, bumped, Counts};
+ghost use Rattle.resolve.specs.Words.{itemWords, itemAt, leftItem, downWalker, upWalker, leftWalker, doneWalker, usedIn, kindIn, spanIn, placeIn, nodesWith, finishedNode, referenceKind, freshName, namesWith, begunWord, oneMore, nodeAt, withParent, bumped, Counts};
 ghost use Rattle.resolve.specs.Turns.{Turns, Runs, Visits, VisitsTo, isRunning};
 ghost use Rattle.resolve.specs.Resolved.{HeldNames, Resolved};
 use records::ExprRecord;
@@ -207,17 +207,17 @@ fn set_node(names: &mut [u32], name: NameNo, node: NodeNo)
 }
 
 // The node that a reference gets as its child, by its name's status; 0 if the name is not finished.
-fn target(status: u32) -> u32
-    ensures { λ r. ⌜ r ≡ targetOf status ⌝ }
+fn finished_node(status: u32) -> u32
+    ensures { λ r. ⌜ r ≡ finishedNode status ⌝ }
 {
     if status == Status::BEGUN { 0 } else { status }
 }
 
 // A reference with no child is missing.
-fn reference_kind(target: u32) -> u32
-    ensures { λ r. ⌜ r ≡ referenceKind target ⌝ }
+fn reference_kind(node: u32) -> u32
+    ensures { λ r. ⌜ r ≡ referenceKind node ⌝ }
 {
-    if target == 0 {
+    if node == 0 {
         NodeKind::MISSING
     } else {
         NodeKind::REFERENCE
@@ -297,7 +297,7 @@ fn refer(
         let first = begin_name(names, used);
         return going_down(first, used, number, g.made);
     }
-    let left = target(status);
+    let left = finished_node(status);
     let kind = NodeKind(reference_kind(left));
     make_node(exprs, names, nodes, g.made, kind, item, NodeNo(left));
     let number = cursor::next_number(g.made);
