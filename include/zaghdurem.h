@@ -115,22 +115,61 @@ typedef struct {
     uint32_t names;
     uint32_t nodes;
     uint32_t errors;
-} ZaghduremInner;
+} ZaghduremRead;
 
-/* Reads a source into eight lent tables: the Rust's `parse_inner`, steps 1 and 2 (definitions `innerAll` and `tablesAfter` of
- * crates/reader). Tokens, lines, expressions and types are those of `zaghdurem_parse_line_vector`. A name has four words:
- * start, length, expression, node; names stand in the order of their first legal lines. A node has eight: kind, start, name
- * number (0 but for the outermost node of a name), left, right, span start, span length, in-degree; children stand before
- * parents. An error has four: kind, start, name start, name length; they are the errors of lines, in line order. The words of
- * work are used on the way and are zero afterwards.
+/* Reads a source into eight lent tables. Tokens, lines, expressions and types are those of `zaghdurem_parse_line_vector`. A
+ * name has four words: start, length, expression, node; names stand in the order of their first legal lines. A node has
+ * eight: kind, start, name number (0 but for the outermost node of a name), left, right, span start, span length, in-degree;
+ * children stand before parents. An error has four: kind (illegal 1, repeated 2, missing 3, incomplete 4), start, name start,
+ * name length; first come the errors of lines, in line order, then one for each missing or incomplete node, in node order, at
+ * the node's start and with its span as the name. The words of work are used on the way and are zero afterwards.
  * Refusals are those of `zaghdurem_parse_line_vector`, with refusal 1 for any of the eight tables: then no word of any is
  * changed. Refusals 2 to 13 set the first 1,024 records of every table to zero; otherwise unused records are zero. Words past
  * the first 1,024 records never change. */
-ZaghduremInner zaghdurem_parse_inner(const uint8_t *source, size_t source_len, const uint8_t *jets, size_t jets_len,
-                                     uint32_t *tokens, size_t tokens_len, uint32_t *lines, size_t lines_len,
-                                     uint32_t *expressions, size_t expressions_len, uint32_t *types, size_t types_len,
-                                     uint32_t *names, size_t names_len, uint32_t *nodes, size_t nodes_len,
-                                     uint32_t *errors, size_t errors_len, uint32_t *work, size_t work_len);
+ZaghduremRead zaghdurem_read(const uint8_t *source, size_t source_len, const uint8_t *jets, size_t jets_len,
+                             uint32_t *tokens, size_t tokens_len, uint32_t *lines, size_t lines_len,
+                             uint32_t *expressions, size_t expressions_len, uint32_t *types, size_t types_len,
+                             uint32_t *names, size_t names_len, uint32_t *nodes, size_t nodes_len,
+                             uint32_t *errors, size_t errors_len, uint32_t *work, size_t work_len);
+
+/* A part of a source: where it starts and how many bytes it has. */
+typedef struct {
+    uint32_t start;
+    uint32_t len;
+} ZaghduremSpan;
+
+/* The text of a span, as the very part of the source where it stands: the span itself if it lies inside the source, else
+ * 0, 0. Any `start` and `len` will do; their sum does not wrap. */
+ZaghduremSpan zaghdurem_span_text(const uint8_t *source, size_t source_len, uint32_t start, uint32_t len);
+
+/* The text of the name `number`, counted from 1, of a table of `count` names, as the very part of the source where it stands.
+ * 0, 0 for the number 0, a number past `count`, past 1,024 or past the table's end, and a span outside the source; words past the
+ * table's end read as 0. */
+ZaghduremSpan zaghdurem_name_text(const uint8_t *source, size_t source_len, const uint32_t *names, size_t names_len,
+                                  uint32_t count, uint32_t number);
+
+/* The first root behind the name number `after`, as a name number; 0 if there is none. Begin with 0 and go on from each root
+ * to have them all, in the order of names. A name is a root if it has a node, and that node's in-degree is 0. A name past
+ * `name_count`, past 1,024 or past its table's end is none; nor is one whose node is past `node_count`, past 1,024 or past
+ * its table's end. */
+uint32_t zaghdurem_next_root(const uint32_t *names, size_t names_len, uint32_t name_count, const uint32_t *nodes,
+                             size_t nodes_len, uint32_t node_count, uint32_t after);
+
+/* What listing gives: 1 and how many bytes were written, or 0 and 0 if the text has no room. */
+typedef struct {
+    uint32_t listed;
+    size_t len;
+} ZaghduremListed;
+
+/* Reads a source into eight lent tables, as `zaghdurem_read` does, and writes the listing of its nodes, roots and errors, or
+ * the row of its refusal, into a lent output. If the text has no room no byte of the output is changed; bytes past the text
+ * never are. The tables are as after reading either way. 196,608 bytes of output always suffice. */
+ZaghduremListed zaghdurem_list(const uint8_t *source, size_t source_len, const uint8_t *jets, size_t jets_len,
+                               uint32_t *tokens, size_t tokens_len, uint32_t *lines, size_t lines_len,
+                               uint32_t *expressions, size_t expressions_len, uint32_t *types, size_t types_len,
+                               uint32_t *names, size_t names_len, uint32_t *nodes, size_t nodes_len,
+                               uint32_t *errors, size_t errors_len, uint32_t *work, size_t work_len,
+                               uint8_t *out, size_t out_len);
 
 /* Byte `index`, counted from 0, of the literal at a span of the source (definition `literalByte`), a number below 256: its
  * bits go first bit highest, four for a hex digit, zeros after the last. 0 past the last byte, and for a span that is no

@@ -33,16 +33,44 @@ static void parse(const char *bytes, const char *jets) {
            (unsigned)l[3], (unsigned)l[4], (unsigned)e[0], (unsigned)e[1], (unsigned)y[0], (unsigned)y[3]);
 }
 
-static void inner(const char *bytes) {
-    static uint32_t t[3072], l[5120], e[6144], y[4096], n[4096], x[8192], r[4096], w[4096];
-    ZaghduremInner p = zaghdurem_parse_inner((const uint8_t *)bytes, strlen(bytes), (const uint8_t *)"", 0, t, 3072, l, 5120,
-                                             e, 6144, y, 4096, n, 4096, x, 8192, r, 4096, w, 4096);
-    printf("inner %u %zu %u, %u %u %u %u, %u %u %u\n", (unsigned)p.no, p.place, (unsigned)p.value, (unsigned)p.tokens,
-           (unsigned)p.lines, (unsigned)p.expressions, (unsigned)p.types, (unsigned)p.names, (unsigned)p.nodes,
-           (unsigned)p.errors);
-    printf("name %u %u %u %u, node %u %u %u %u %u %u %u %u, error %u %u\n", (unsigned)n[0], (unsigned)n[1], (unsigned)n[2],
-           (unsigned)n[3], (unsigned)x[0], (unsigned)x[1], (unsigned)x[2], (unsigned)x[3], (unsigned)x[4], (unsigned)x[5],
-           (unsigned)x[6], (unsigned)x[7], (unsigned)r[0], (unsigned)r[1]);
+/* The tables of a reading, in their order. */
+static uint32_t tokens[3072], lines[5120], expressions[6144], types[4096], names[4096], nodes[8192], errors[4096], work[4096];
+
+#define TABLES tokens, 3072, lines, 5120, expressions, 6144, types, 4096, names, 4096, nodes, 8192, errors, 4096, work, 4096
+
+static void words(const char *what, const uint32_t *table, size_t count) {
+    printf("%s", what);
+    for (size_t at = 0; at < count; at++)
+        printf(" %u", (unsigned)table[at]);
+    printf("\n");
+}
+
+static void part(const char *what, const char *bytes, ZaghduremSpan s) {
+    printf("%s %u %u \"%.*s\"\n", what, (unsigned)s.start, (unsigned)s.len, (int)s.len, bytes + s.start);
+}
+
+static void read(const char *bytes) {
+    const uint8_t *source = (const uint8_t *)bytes;
+    size_t len = strlen(bytes);
+    ZaghduremRead r = zaghdurem_read(source, len, NULL, 0, TABLES);
+    printf("read %u %zu %u, %u %u %u %u, %u %u %u\n", (unsigned)r.no, r.place, (unsigned)r.value, (unsigned)r.tokens,
+           (unsigned)r.lines, (unsigned)r.expressions, (unsigned)r.types, (unsigned)r.names, (unsigned)r.nodes,
+           (unsigned)r.errors);
+    words("name", names, 4);
+    words("node", nodes, 8);
+    words("errors", errors, 12);
+    for (uint32_t n = 0; (n = zaghdurem_next_root(names, 4096, r.names, nodes, 8192, r.nodes, n)) != 0;)
+        part("root", bytes, zaghdurem_name_text(source, len, names, 4096, r.names, n));
+    part("no name", bytes, zaghdurem_name_text(source, len, names, 4096, r.names, r.names + 1));
+    part("span", bytes, zaghdurem_span_text(source, len, 1, 3));
+    part("no span", bytes, zaghdurem_span_text(source, len, 2, UINT32_MAX));
+}
+
+static void list(const char *bytes, size_t room) {
+    static uint8_t out[196608];
+    memset(out, '.', sizeof out);
+    ZaghduremListed l = zaghdurem_list((const uint8_t *)bytes, strlen(bytes), (const uint8_t *)"low", 3, TABLES, out, room);
+    printf("listed %u %zu\n%.*s%.2s\n", (unsigned)l.listed, l.len, (int)l.len, (const char *)out, (const char *)out + l.len);
 }
 
 static void byte(const char *bytes, uint32_t start, uint32_t len, uint32_t index) {
@@ -66,8 +94,12 @@ int main(void) {
     lex("a->b");
     parse("main := comp jet_low iden : 2^8 -> 1", "high\nlow");
     parse("a := const 0b111", "");
-    inner("main := pair a iden\na := unit\n_ := unit");
-    inner("a := a )");
+    read("main := pair a iden\na := unit\n_ := b\nb : 1 -> 1");
+    read("a := a )");
+    list("main := pair a iden\na := jet_low\n", 196608);
+    list("main := b", 67);
+    list("main := b", 66);
+    list("a := const 0b111", 17);
     byte("const 0x9f4", 6, 5, 1);
     byte("const 0x9f4", 6, 5, 2);
     printf("word %u %u %u\n", (unsigned)zaghdurem_word(table, 7, 3, 2, 0), (unsigned)zaghdurem_word(table, 7, 3, 3, 1),

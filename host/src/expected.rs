@@ -3,11 +3,13 @@
 
 mod records;
 mod resolved;
+mod rust;
 mod sheet;
 #[cfg(test)]
 mod tests;
 
-pub use sheet::{sheet, NODE_WORDS};
+pub use rust::Rust;
+pub use sheet::{listing, sheet, ERROR_WORDS, NODE_WORDS};
 
 use oracle::ast::{Line, Type};
 use oracle::{Jets, Reading, Refusal, Token};
@@ -41,9 +43,14 @@ pub struct Expected {
     /// The words of the records, without what follows them.
     pub tables: [Vec<u32>; 7],
     /// In the order of names.
-    pub roots: Vec<String>,
-    /// How many of the roots step 3 of the Rust drops.
-    pub dropped: usize,
+    pub roots: Vec<Root>,
+}
+
+/// A root: the number of its name, and the name's text.
+#[derive(Clone, Debug, PartialEq, Eq)]
+pub struct Root {
+    pub number: u32,
+    pub text: String,
 }
 
 /// What the reader gives.
@@ -53,10 +60,32 @@ pub fn expected(source: &[u8], jets: &[u8]) -> Expected {
 
 /// Like [`expected`], with a jet list that serves many sources.
 pub fn expected_with(source: &[u8], jets: &Jets) -> Expected {
+    whole_with(source, jets).expected
+}
+
+/// All that the oracle says about a source.
+#[derive(Debug, Default)]
+pub struct Whole {
+    pub expected: Expected,
+    /// The types of each name, in the order of names; none if the source is refused.
+    pub types: Vec<UserTypes>,
+    /// What the Rust itself gives; None if the source is refused.
+    pub rust: Option<Rust>,
+}
+
+/// All that the oracle says, with a jet list that serves many sources.
+pub fn whole_with(source: &[u8], jets: &Jets) -> Whole {
     let whole = |text: &str| oracle::read_with(text, jets);
     match read(source, whole, |reading| &reading.tokens) {
-        Ok(reading) => recorded(source, &reading, Errors::All),
-        Err(refusal) => refused_by(&refusal),
+        Ok(reading) => Whole {
+            expected: recorded(source, &reading),
+            types: reading.names.iter().map(UserTypes::of).collect(),
+            rust: Some(Rust::of(&reading)),
+        },
+        Err(refusal) => Whole {
+            expected: refused_by(&refusal),
+            ..Whole::default()
+        },
     }
 }
 
@@ -80,19 +109,12 @@ pub struct UserTypes {
     pub target: Vec<Type>,
 }
 
-/// What the resolver gives, with a jet list that serves many sources: the seven tables, of errors those of lines alone.
-/// The types of each name stand beside it, in the order of names; there are none if the source is refused.
-pub fn resolved_with(source: &[u8], jets: &Jets) -> (Expected, Vec<UserTypes>) {
-    let whole = |text: &str| oracle::read_with(text, jets);
-    match read(source, whole, |reading| &reading.tokens) {
-        Ok(reading) => {
-            let types = reading.names.iter().map(|name| UserTypes {
-                source: name.source_types.clone(),
-                target: name.target_types.clone(),
-            });
-            (recorded(source, &reading, Errors::OfLines), types.collect())
+impl UserTypes {
+    fn of(name: &oracle::Name) -> Self {
+        UserTypes {
+            source: name.source_types.clone(),
+            target: name.target_types.clone(),
         }
-        Err(refusal) => (refused_by(&refusal), Vec::new()),
     }
 }
 
@@ -166,25 +188,19 @@ fn answer(records: Records) -> Expected {
     }
 }
 
-/// Which errors are recorded.
-#[derive(Clone, Copy, PartialEq, Eq)]
-enum Errors {
-    All,
-    OfLines,
-}
-
 /// The records of what is read.
-fn recorded(source: &[u8], reading: &Reading, errors: Errors) -> Expected {
+fn recorded(source: &[u8], reading: &Reading) -> Expected {
     let (mut records, expressions) = Records::of_lines(source, &reading.tokens, &reading.lines);
     let numbers = records.names(reading, &expressions);
     records.nodes(reading, &numbers);
     records.line_errors(reading);
-    if errors == Errors::All {
-        records.node_errors(reading);
-    }
+    records.node_errors(reading);
+    let roots = reading.roots.iter().map(|root| Root {
+        number: numbers[root.name.as_str()],
+        text: root.name.clone(),
+    });
     Expected {
-        roots: reading.roots.iter().map(|root| root.name.clone()).collect(),
-        dropped: reading.roots.iter().filter(|root| root.dropped).count(),
+        roots: roots.collect(),
         ..answer(records)
     }
 }

@@ -1,11 +1,10 @@
-//! The library for a host: safe calls on slices and numbers.
+//! The library for the comparing runs: safe calls on slices and numbers.
 
-mod inner;
 mod parsed;
 
 use crate::ffi;
-pub use crate::ffi::{Inner, Lexed, Limits, Parsed, Position, Refusal};
-pub use inner::{parse_inner, parse_inner_row, InnerCounts, InnerTables};
+pub use crate::ffi::{Lexed, Limits, Parsed, Refusal};
+pub use crate::zaghdurem::calls::*;
 pub(crate) use parsed::parse_row;
 pub use parsed::{parse_line_vector, Counts, Tables};
 use std::fmt;
@@ -38,12 +37,6 @@ pub(crate) fn check_text_row(source: &[u8]) -> Refusal {
     unsafe { ffi::zaghdurem_check_text(source.as_ptr(), source.len()) }
 }
 
-/// Line and column of a byte offset, in any bytes. An offset past the end counts as the end.
-pub fn offset_to_position(source: &[u8], offset: usize) -> Position {
-    // SAFETY: pointer and length are those of one slice, which is only read.
-    unsafe { ffi::zaghdurem_offset_to_position(source.as_ptr(), source.len(), offset) }
-}
-
 /// Writes the source's tokens into a lent table as records of kind, start and length, and gives their number; the
 /// first 1,024 records not used become zeros, all of them on refusals 2 to 5. Refusal 1 leaves the table as it is.
 pub fn lex_all(source: &[u8], tokens: &mut [u32]) -> Result<u32, Refusal> {
@@ -65,18 +58,6 @@ pub(crate) fn lex_all_row(source: &[u8], tokens: &mut [u32]) -> Lexed {
     // SAFETY: each pointer and length are those of one slice; the source is only read, and
     // the table is this call's alone.
     unsafe { ffi::zaghdurem_lex_all(source.as_ptr(), source.len(), table, words) }
-}
-
-/// Byte `index` (from 0) of the literal at a span of the source: 0 past its last byte, and where no literal stands.
-pub fn literal_byte(source: &[u8], start: u32, len: u32, index: u32) -> u8 {
-    let byte = literal_word(source, start, len, index);
-    u8::try_from(byte).expect("a byte of a literal is below 256")
-}
-
-/// The number that `literal_byte` rests on, as the library gives it.
-pub(crate) fn literal_word(source: &[u8], start: u32, len: u32, index: u32) -> u32 {
-    // SAFETY: pointer and length are those of one slice, which is only read.
-    unsafe { ffi::zaghdurem_literal_byte(source.as_ptr(), source.len(), start, len, index) }
 }
 
 /// The limits of a source and the words per record of each table.
@@ -150,7 +131,7 @@ mod tests {
 
     #[test]
     fn bytes_of_literals_are_told() {
-        let bytes: Vec<u8> = (0..4).map(|at| literal_byte(b"0x9f4", 0, 5, at)).collect();
+        let bytes: Vec<u32> = (0..4).map(|at| literal_byte(b"0x9f4", 0, 5, at)).collect();
         assert_eq!(bytes, [0x9f, 0x40, 0, 0]);
         assert_eq!(literal_byte(b"a 0b1", 2, 3, 0), 0x80);
         assert_eq!(literal_byte(b"a 0b1", 1, 4, 0), 0);

@@ -10,7 +10,7 @@ mod lent;
 mod limits;
 mod literals;
 mod numbers;
-mod reference;
+pub(crate) mod reference;
 mod tokens;
 
 use crate::buffer::Buffer;

@@ -1,12 +1,13 @@
 //! A fixed list of sources with the answers that the oracle gives, to be stored and replayed without Rust.
 //!
-//! Case NNN is the files `i/NNN`, the source; `j/NNN`, the jet list; `o/NNN`, the sheet that the program prints; and
-//! `t/NNN`, the answer as words (see [`words`]).
+//! Case NNN is the files `i/NNN`, the source; `j/NNN`, the jet list; `o/NNN`, the whole sheet that the program prints, which
+//! is the listing of the source; and `t/NNN`, the answer as words (see [`words`]). Each file has under 65,536 bytes.
 
 mod bytes;
 mod limits;
 mod made;
 mod rules;
+mod sheets;
 
 pub use made::SEED;
 
@@ -46,13 +47,14 @@ impl Case {
     }
 }
 
-/// The list: what is picked by hand comes first.
+/// The list. A new case goes to its end, so that no other gets another number.
 pub fn cases() -> Vec<Case> {
     [
         rules::cases(),
         bytes::cases(),
         limits::cases(),
         made::cases(),
+        sheets::cases(),
     ]
     .concat()
 }

@@ -27,7 +27,7 @@ use Rattle.cursor.proofs.Reached.{reached-none, reached-ready, reached-go}
 use Rattle.grammar.specs.Tree.{Line, typesOf}
 use Rattle.grammar.specs.Rule.{Parsed, got, stop, goOn, repeatFor, repeat}
 use Rattle.grammar.specs.Grammar.{line, another, lines}
-use Rattle.grammar.specs.Recorded.{typeRecords, linePart, exprsOf, sourceWeight, typesIn, lineRecord, lineTypes, exprRecords, lineRecords, linesExprs, linesTypes}
+use Rattle.grammar.specs.Recorded.{typeRecords, linePart, exprsOf, sourceWeight, typesIn, lineRecord, lineTypes, exprRecords, lineRecords, linesExprs, linesTypes, lineRows, exprRowsOf, typeRowsOf}
 use Rattle.grammar.proofs.Repeat.{repeat-stop, repeat-on, repeat-off}
 use Rattle.grammar.proofs.Sound.{lines-steps}
 use Rattle.grammar.proofs.Takes.{total, expr-records, type-records, line-records, lines-exprs, lines-types}
@@ -38,7 +38,7 @@ use Rattle.lines.specs.declared.LineAnswer.the-variants.{Read, Refused}
 use Rattle.ends.specs.declared.ParseEnd.{ParseEnd}
 use Rattle.ends.specs.declared.ParseEnd.the-variants.{Lines, Refused as NoLines}
 use Rattle.lines.specs.Answers.{LineReads}
-use Rattle.ast.specs.Parsing.{lineRows, exprRowsOf, typeRowsOf, linesIn, endBy}
+use Rattle.ast.specs.Parsing.{linesIn, endBy}
 
 -- ---- totals
 

@@ -27,7 +27,7 @@ use Rattle.cursor.proofs.Laws.{left-all}
 use Rattle.grammar.specs.Tree.{Line}
 use Rattle.grammar.specs.Rule.{Parsed, got, stop}
 use Rattle.grammar.specs.Grammar.{lines}
-use Rattle.grammar.specs.Recorded.{lineRecords, linesExprs, linesTypes}
+use Rattle.grammar.specs.Recorded.{lineRecords, linesExprs, linesTypes, lineRows, exprRowsOf, typeRowsOf}
 use Rattle.ast.specs.declared.Lexed.{Lexed}
 use Rattle.ast.specs.declared.Lexed.the-variants.{Tokens as Count, No}
 use Rattle.cursor.specs.declared.ParseRefusal.{ParseRefusal}
@@ -36,7 +36,7 @@ use Rattle.ends.specs.declared.ParseEnd.{ParseEnd}
 use Rattle.ends.specs.declared.ParseEnd.the-variants.{Lines, Refused}
 use Rattle.ends.specs.declared.ParseAnswer.{ParseAnswer}
 use Rattle.ends.specs.declared.ParseAnswer.the-variants.{NotLexed, Parsed as WasParsed}
-use Rattle.ast.specs.Parsing.{Tables, tables, shortBy, lexedBy, tokensKept, tokensIn, lineRows, exprRowsOf, typeRowsOf, linesIn, endBy, parsing, holding, parsedBy, leftBy, parseAll, tablesAfter}
+use Rattle.ast.specs.Parsing.{Tables, tables, shortBy, lexedBy, tokensKept, tokensIn, linesIn, endBy, parsing, holding, parsedBy, leftBy, parseAll, tablesAfter}
 
 -- ---- room
 

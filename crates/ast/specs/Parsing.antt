@@ -1,12 +1,11 @@
 -- Document 01: the lines of a source, with refusals 1 to 13 in their order; and what the four tables hold then.
 use Prim.Native.Nat.{ℕ, _*_}
 use mathlib.Core.Bool.{Bool, _||_}
-use mathlib.Core.List.{List, [], map}
+use mathlib.Core.List.{List, []}
 use lib.Dec.{ltb}
 use lib.ListN.{length}
 use Rattle.records.specs.Base.{if_then_else_}
 use Rattle.records.specs.Limits.{recordLimit, tokenWidth, lineWidth, exprWidth, typeWidth}
-use Rattle.records.specs.Records.{lineWords, exprWords, typeWords}
 use Rattle.tables.specs.Tables.{tableOf}
 use Rattle.lex.specs.Tokens.{Token, lexing, rowsOf, lexAll}
 use Rattle.lex.specs.declared.LexAnswer.{LexAnswer}
@@ -17,7 +16,7 @@ use Rattle.cursor.specs.Cursor.{refusalAt}
 use Rattle.grammar.specs.Tree.{Line}
 use Rattle.grammar.specs.Rule.{Parsed, got, stop}
 use Rattle.grammar.specs.Grammar.{lines}
-use Rattle.grammar.specs.Recorded.{lineRecords, linesExprs, linesTypes}
+use Rattle.grammar.specs.Recorded.{linesExprs, linesTypes, lineRows, exprRowsOf, typeRowsOf}
 use Rattle.ends.specs.declared.Counts.{Counts}
 use Rattle.ast.specs.declared.Lexed.{Lexed}
 use Rattle.ast.specs.declared.Lexed.the-variants.{Tokens as Count, No}
@@ -26,16 +25,7 @@ use Rattle.ends.specs.declared.ParseEnd.the-variants.{Lines, Refused}
 use Rattle.ends.specs.declared.ParseAnswer.{ParseAnswer}
 use Rattle.ends.specs.declared.ParseAnswer.the-variants.{NotLexed, Parsed as WasParsed}
 
--- ---- the rows of what was read
-
-abbrev pub lineRows : List Line → List (List ℕ)
-lineRows ls = map lineWords (lineRecords ls 0 0)
-
-abbrev pub exprRowsOf : List Line → List (List ℕ)
-exprRowsOf ls = map exprWords (linesExprs ls 0)
-
-abbrev pub typeRowsOf : List Line → List (List ℕ)
-typeRowsOf ls = map typeWords (linesTypes ls 0)
+-- ---- what was read
 
 -- the lines that count: none after a refusal
 abbrev pub linesIn : Parsed (List Line) → List Line

@@ -5,16 +5,11 @@ use mathlib.Core.Bool.{true, false}
 use mathlib.Core.Path.{_≡_, refl}
 use mathlib.Core.List.{List, [], _∷_, map}
 use Rattle.records.specs.Base.{bytes}
-use Rattle.records.specs.TokenKind as token
-use Rattle.records.specs.declared.Span.{Span}
-use Rattle.records.specs.declared.kinds.TokenKind.{TokenKind}
-use Rattle.tables.specs.Tables.{joined}
-use Rattle.lex.specs.Longest.{starts}
 use Rattle.checks.specs.declared.Fault.the-variants.{BadWordLength, EntropyInsufficient, EntropyTooMuch, Bad2ExpNumber, NumberOutOfRange}
 use Rattle.checks.specs.declared.PowerVerdict.{PowerVerdict}
 use Rattle.checks.specs.declared.PowerVerdict.the-variants.{Power, BadPower}
 use Rattle.checks.specs.declared.Verdict.the-variants.{Pass, Fails}
-use Rattle.checks.specs.Literals.{bitLength, log2, numberFrom, every, isDigits, binBits, hexBits, bitsOf, packedByte, literalByte}
+use Rattle.checks.specs.Powers.{log2, numberFrom}
 use Rattle.checks.specs.Jets.{pieces, same, isOneOf, known}
 use Rattle.checks.specs.Checks.{wordVerdict, failVerdict, powerVerdict}
 
@@ -43,14 +38,7 @@ pub powers-hold : map (λ (e : PowerExample). powerVerdict (bytes (e .text))) po
 unfolding powerVerdict numberFrom log2
 powers-hold = refl
 
--- ---- lengths
-
-abbrev kindNo : token.Kind → TokenKind
-kindNo k = record { 0 = token.number k }
-
-pub lengths-hold : bitLength (kindNo token.bin) 3 ∷ bitLength (kindNo token.hex) 3 ∷ bitLength (kindNo token.underscore) 1 ∷ [] ≡ 1 ∷ 4 ∷ 0 ∷ []
-unfolding bitLength
-lengths-hold = refl
+-- ---- bit lengths
 
 pub words-hold : map wordVerdict (0 ∷ 1 ∷ 3 ∷ 4 ∷ []) ≡ Fails (BadWordLength 0) ∷ Pass ∷ Fails (BadWordLength 3) ∷ Pass ∷ []
 unfolding wordVerdict log2
@@ -68,22 +56,3 @@ jetList = bytes "add_8\n\none\nlast"
 pub jets-hold : map (λ (t : String). known jetList (bytes t)) ("jet_add_8" ∷ "jet_last" ∷ "jet_one" ∷ "jet_" ∷ "jet_on" ∷ "jet_onel" ∷ "jet_add_8\n" ∷ []) ≡ true ∷ true ∷ true ∷ true ∷ false ∷ false ∷ false ∷ []
 unfolding known isOneOf pieces same
 jets-hold = refl
-
--- ---- the bytes of literals
-
-abbrev span : (start len : ℕ) → Span
-span at n = record { start = record { 0 = at }; len = n }
-
--- `0b101` is 1010 0000, and `0x5a` is 0101 1010; then past the last byte, no digits, past the source
-pub bytes-hold :
-    literalByte (bytes "0b101") (span 0 5) 0
-    ∷ literalByte (bytes "const 0x5a") (span 6 4) 0
-    ∷ literalByte (bytes "0x5a7") (span 0 5) 1
-    ∷ literalByte (bytes "0b111111111") (span 0 11) 1
-    ∷ literalByte (bytes "0x5a") (span 0 4) 1
-    ∷ literalByte (bytes "0xxx") (span 0 4) 0
-    ∷ literalByte (bytes "0x5a") (span 1 4) 0
-    ∷ []
-    ≡ 160 ∷ 90 ∷ 112 ∷ 128 ∷ 0 ∷ 0 ∷ 0 ∷ []
-unfolding literalByte packedByte bitsOf binBits hexBits joined isDigits every starts
-bytes-hold = refl

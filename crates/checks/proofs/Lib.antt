@@ -1,5 +1,4 @@
 pub mod Powers
 pub mod Lines
 pub mod Jets
-pub mod Packed
 pub mod Examples

@@ -10,11 +10,10 @@ use lib.ListN.{length, take, drop, length-drop, drop-of-length-le}
 use lib.Seq.{drop-drop}
 use borrow.Author.Tests.{eqb-true, eqb-false, eq-eqb, ne-eqb, le-leb, lt-leb}
 use Rattle.records.specs.Base.{if_then_else_}
-use Rattle.lex.proofs.Laws.{part-rest, run-le}
-use Rattle.lex.specs.Code.{isWord}
-use Rattle.lex.specs.Longest.{run, starts}
-use Rattle.lex.specs.Rows.{word}
-use Rattle.lex.specs.declared.Class.the-variants.{NotLf}
+use Rattle.classes.proofs.Laws.{part-rest, run-le}
+use Rattle.classes.specs.Classes.{word, starts, run}
+use Rattle.classes.specs.declared.Class.the-variants.{NotLf}
+use Rattle.matches.specs.Code.{isWord}
 use Rattle.checks.specs.Jets.{pushed, pieces, same, isOneOf, known}
 use Rattle.checks.proofs.Powers.{lt-or-le}
 

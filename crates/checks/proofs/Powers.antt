@@ -15,7 +15,7 @@ use Rattle.checks.specs.declared.Log2.{Log2}
 use Rattle.checks.specs.declared.Log2.the-variants.{Exactly, NoPower}
 use Rattle.checks.specs.declared.Fault.the-variants.{NumberOutOfRange}
 use Rattle.checks.specs.declared.PowerVerdict.the-variants.{BadPower}
-use Rattle.checks.specs.Literals.{log2, RightLog2, numberFrom, exponentOf}
+use Rattle.checks.specs.Powers.{log2, RightLog2, numberFrom, exponentOf}
 use Rattle.checks.specs.Checks.{powerBy, powerVerdict}
 use Rattle.checks.specs.Code.{exponentCap, capped}
 

@@ -7,6 +7,7 @@ use lib.Dec.{ltb}
 use Rattle.records.specs.Base.{if_then_else_}
 use Rattle.records.specs.Refusals.{Refused, parseFailed, badWordLength, shortFail, longFail, unknownJet, badPower, bigExponent, tooDeep}
 use Rattle.records.specs.declared.kinds.TokenKind.{TokenKind}
+use Rattle.literals.specs.Literals.{bitLength}
 use Rattle.checks.specs.declared.Fault.{Fault}
 use Rattle.checks.specs.declared.Fault.the-variants.{ParseFailed, BadWordLength, EntropyInsufficient, EntropyTooMuch, UnknownJet, Bad2ExpNumber, NumberOutOfRange, TooDeep}
 use Rattle.checks.specs.declared.Log2.{Log2}
@@ -15,7 +16,7 @@ use Rattle.checks.specs.declared.Verdict.{Verdict}
 use Rattle.checks.specs.declared.Verdict.the-variants.{Pass, Fails}
 use Rattle.checks.specs.declared.PowerVerdict.{PowerVerdict}
 use Rattle.checks.specs.declared.PowerVerdict.the-variants.{Power, BadPower}
-use Rattle.checks.specs.Literals.{bitLength, log2, exponentOf}
+use Rattle.checks.specs.Powers.{log2, exponentOf}
 use Rattle.checks.specs.Jets.{known}
 
 -- ---- faults

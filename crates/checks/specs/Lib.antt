@@ -1,4 +1,4 @@
-pub mod Literals
+pub mod Powers
 pub mod Jets
 pub mod Checks
 pub mod Code

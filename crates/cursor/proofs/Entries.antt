@@ -12,7 +12,7 @@ use Rattle.records.specs.Base.{if_then_else_}
 use Rattle.records.specs.TokenKind as token
 use Rattle.records.proofs.Choices.{and-left, and-right, or-cases}
 use Rattle.lex.specs.Tokens.{Token}
-use Rattle.lex.specs.Code.{NotIn}
+use Rattle.matches.specs.Code.{NotIn}
 use Rattle.checks.specs.declared.Fault.the-variants.{ParseFailed}
 use Rattle.grammar.specs.Rule.{Parsed, stop, Table, entry, choice}
 

@@ -18,7 +18,7 @@ use Rattle.tables.proofs.Laws.{table-word}
 use Rattle.lex.specs.Tokens.{Token, recordOf, rowsOf}
 use Rattle.lex.specs.Tiles.{Inside}
 use Rattle.lex.proofs.Going.{rows-wide, rows-length}
-use Rattle.checks.specs.Literals.{spanText}
+use Rattle.literals.specs.Literals.{spanText}
 use Rattle.cursor.specs.Tokens.{tokenAt, tokenOf, tokensFrom, tokensLeft}
 
 -- how long the text of a span is

@@ -7,7 +7,6 @@ use native.Mathlib.Omega.{arith}
 use native.Mathlib.Nat.{add-zero}
 use lib.ListN.{length}
 use Rattle.lex.specs.Tokens.{Token}
-use Rattle.checks.specs.Literals.{spanText}
 use Rattle.cursor.specs.declared.Cursor.{Cursor}
 use Rattle.cursor.specs.Tokens.{tokensLeft}
 use Rattle.cursor.specs.Cursor.{stepped, Ready, Reached}

@@ -12,7 +12,7 @@ use Rattle.records.specs.Limits.{recordLimit, tokenWidth}
 use Rattle.records.specs.TokenKind as token
 use Rattle.records.specs.declared.kinds.TokenKind.{TokenKind}
 use Rattle.records.specs.declared.Span.{Span}
-use Rattle.checks.specs.Literals.{spanText}
+use Rattle.literals.specs.Literals.{spanText}
 use Rattle.records.specs.declared.TokenRecord.{TokenRecord}
 use Rattle.tables.specs.Tables.{wordAt}
 use Rattle.lex.specs.Tokens.{Token, recordOf}

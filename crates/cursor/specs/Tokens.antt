@@ -7,7 +7,7 @@ use Rattle.records.specs.declared.TokenRecord.{TokenRecord}
 use Rattle.records.specs.declared.kinds.TokenKind.{TokenKind}
 use Rattle.tables.specs.Tables.{wordAt}
 use Rattle.lex.specs.Tokens.{Token}
-use Rattle.checks.specs.Literals.{spanText}
+use Rattle.literals.specs.Literals.{spanText}
 
 -- the span of the token of this number
 abbrev pub spanAt : (tokens : List ℕ) → (number : ℕ) → Span

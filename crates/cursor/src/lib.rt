@@ -7,7 +7,7 @@ ghost use lib.ListN.{length};
 ghost use Rattle.records.specs.Limits.{sourceLimit};
 ghost use Rattle.lex.specs.Tokens.{recordOf};
 ghost use Rattle.cursor.specs.Tokens.{tokenAt, ofKind, tokensLeft};
-ghost use Rattle.checks.specs.Literals.{spanText};
+ghost use Rattle.literals.specs.Literals.{spanText};
 ghost use Rattle.grammar.specs.Rule.{isOf};
 ghost use Rattle.grammar.specs.Grammar.{names};
 ghost use Rattle.cursor.specs.Cursor.{nextNumber, placeOf, refusalAt, peeked, expected};

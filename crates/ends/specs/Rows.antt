@@ -1,4 +1,4 @@
--- The parser's rows of document 01's table of refusals, and the counts of records.
+-- The parser's and the reader's rows of document 01's table of refusals, and the counts of records.
 use Rattle.records.specs.Refusals.{rowOf, noRow}
 use Rattle.records.specs.declared.refusals.Refusal.{Refusal}
 use Rattle.lex.specs.Tokens.{rowOfLex}
@@ -8,6 +8,9 @@ use Rattle.ends.specs.declared.ParseEnd.{ParseEnd}
 use Rattle.ends.specs.declared.ParseEnd.the-variants.{Lines, Refused}
 use Rattle.ends.specs.declared.ParseAnswer.{ParseAnswer}
 use Rattle.ends.specs.declared.ParseAnswer.the-variants.{NotLexed, Parsed as WasParsed}
+use Rattle.ends.specs.declared.ReadCounts.{ReadCounts}
+use Rattle.ends.specs.declared.ReadAnswer.{ReadAnswer}
+use Rattle.ends.specs.declared.ReadAnswer.the-variants.{Read, Refused as NotRead}
 
 abbrev pub rowOfEnd : ParseEnd → Refusal
 rowOfEnd (Lines n) = noRow
@@ -20,6 +23,9 @@ rowOfParse (WasParsed e) = rowOfEnd e
 abbrev pub noCounts : Counts
 noCounts = record { tokens = 0; lines = 0; exprs = 0; types = 0 }
 
+abbrev pub noReadCounts : ReadCounts
+noReadCounts = record { parsed = noCounts; names = 0; nodes = 0; errors = 0 }
+
 abbrev pub countsOfEnd : ParseEnd → Counts
 countsOfEnd (Lines n) = n
 countsOfEnd (Refused r) = noCounts
@@ -27,3 +33,12 @@ countsOfEnd (Refused r) = noCounts
 abbrev pub countsOfParse : ParseAnswer → Counts
 countsOfParse (NotLexed a) = noCounts
 countsOfParse (WasParsed e) = countsOfEnd e
+
+-- an answer's row and counts (reader/proofs/Answers.antt: they are those of the reading)
+abbrev pub rowOfRead : ReadAnswer → Refusal
+rowOfRead (Read n) = noRow
+rowOfRead (NotRead a) = rowOfParse a
+
+abbrev pub countsOfRead : ReadAnswer → ReadCounts
+countsOfRead (Read n) = n
+countsOfRead (NotRead a) = noReadCounts

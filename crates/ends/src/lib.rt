@@ -1,6 +1,7 @@
-// How parsing ends: the parser's answers, their rows of the table of refusals, and their counts.
+// How parsing and reading end: the answers, their rows of the table of refusals, and their counts.
 ghost use mathlib.Core.Path.{_≡_};
-ghost use Rattle.ends.specs.Rows.{rowOfEnd, rowOfParse, noCounts, countsOfEnd, countsOfParse};
+ghost use Rattle.records.specs.Refusals.{noRow};
+ghost use Rattle.ends.specs.Rows.{rowOfEnd, rowOfParse, rowOfRead, noCounts, noReadCounts, countsOfEnd, countsOfParse, countsOfRead};
 use cursor::ParseRefusal;
 use lex::LexAnswer;
 use records::refusals::Refusal;
@@ -19,10 +20,35 @@ pub enum ParseEnd {
     Refused(ParseRefusal),
 }
 
-// The answer for any source, any jet list and any lent tables.
+// The parser's answer for any source, any jet list and any lent tables.
 pub enum ParseAnswer {
     NotLexed(LexAnswer),
     Parsed(ParseEnd),
+}
+
+// How many records there are of each table that reading fills; work has none.
+pub struct ReadCounts {
+    pub parsed: Counts,
+    pub names: u32,
+    pub nodes: u32,
+    pub errors: u32,
+}
+
+// The reader's answer for any source, any jet list and any lent tables.
+pub enum ReadAnswer {
+    Read(ReadCounts),
+    Refused(ParseAnswer),
+}
+
+// The row of what is not refused.
+fn no_row() -> Refusal
+    ensures { λ r. ⌜ r ≡ noRow ⌝ }
+{
+    Refusal {
+        no: Refusal::NONE,
+        value: 0,
+        place: 0,
+    }
 }
 
 // No record of any table.
@@ -37,17 +63,24 @@ fn no_counts() -> Counts
     }
 }
 
+fn no_read_counts() -> ReadCounts
+    ensures { λ r. ⌜ r ≡ noReadCounts ⌝ }
+{
+    ReadCounts {
+        parsed: no_counts(),
+        names: 0,
+        nodes: 0,
+        errors: 0,
+    }
+}
+
 impl ParseEnd {
     // The end as a row of the table of refusals,
     fn row(self) -> Refusal
         ensures { λ r. ⌜ r ≡ rowOfEnd self ⌝ }
     {
         match self {
-            ParseEnd::Lines(_) => Refusal {
-                no: Refusal::NONE,
-                value: 0,
-                place: 0,
-            },
+            ParseEnd::Lines(_) => no_row(),
             ParseEnd::Refused(x) => {
                 let fault = x.fault;
                 fault.row(x.at)
@@ -84,6 +117,28 @@ impl ParseAnswer {
         match self {
             ParseAnswer::NotLexed(_) => no_counts(),
             ParseAnswer::Parsed(end) => end.counts(),
+        }
+    }
+}
+
+impl ReadAnswer {
+    // The answer as a row of the table of refusals,
+    pub fn row(self) -> Refusal
+        ensures { λ r. ⌜ r ≡ rowOfRead self ⌝ }
+    {
+        match self {
+            ReadAnswer::Read(_) => no_row(),
+            ReadAnswer::Refused(answer) => answer.row(),
+        }
+    }
+
+    // and how many records there are.
+    pub fn counts(self) -> ReadCounts
+        ensures { λ r. ⌜ r ≡ countsOfRead self ⌝ }
+    {
+        match self {
+            ReadAnswer::Read(counts) => counts,
+            ReadAnswer::Refused(_) => no_read_counts(),
         }
     }
 }

@@ -11,7 +11,7 @@ use Rattle.records.specs.Limits.{depthLimit}
 use Rattle.records.specs.TokenKind as token
 use Rattle.records.proofs.Choices.{or-cases}
 use Rattle.lex.specs.Tokens.{Token}
-use Rattle.checks.specs.Literals.{isKind}
+use Rattle.literals.specs.Literals.{isKind}
 use Rattle.checks.specs.Checks.{Checks}
 use Rattle.grammar.specs.Tree as tree
 use Rattle.grammar.specs.Tree.{Nullary, nullaryToken, Unary, unaryToken, Binary, binaryToken, Expr, Cmr, Op, opToken, Ty, Arrow, Line}
@@ -36,7 +36,7 @@ name-kinds x n = go (or-cases (isKind token.symbol (x .kind)) (isOf x (token.und
 without-names : {A : Type 0} {table : Table A} {x : Token} {ts : List Token} → OneOf names x → entry table (ofKind token.symbol) ≡ none → entry table (ofKind token.underscore) ≡ none → Without table (x ∷ ts)
 without-names {x = x} n e f = ⊎-elim (λ i. without-kind token.symbol i e) (λ i. without-kind token.underscore i f) (name-kinds x n)
 
-op-entry : (o : Op) → entry operators (ofKind (opToken o)) ≡ some o
+pub op-entry : (o : Op) → entry operators (ofKind (opToken o)) ≡ some o
 unfolding entry
 op-entry tree.sum = refl
 op-entry tree.product = refl
@@ -58,10 +58,10 @@ module _ (checks : Checks) where
   -- ---- expressions
 
   -- by the kind of the first token
-  abbrev heads : Table (Token → Rule Head)
+  abbrev pub heads : Table (Token → Rule Head)
   heads = leafHeads checks ++ innerHeads checks
 
-  head-is : (k : token.Kind) (t : Token) → Is k t → (ts : List Token) (r : Token → Rule Head) → entry heads (ofKind k) ≡ some r → head checks (t ∷ ts) ≡ r t ts
+  pub head-is : (k : token.Kind) (t : Token) → Is k t → (ts : List Token) (r : Token → Rule Head) → entry heads (ofKind k) ≡ some r → head checks (t ∷ ts) ≡ r t ts
   unfolding head
   head-is k t i ts r e = choice-is k t i ts heads (λ (p : (Token → Rule Head) × Token). p .0 (p .1)) r e
 
@@ -71,14 +71,14 @@ module _ (checks : Checks) where
   nullary-head tree.iden = refl
   nullary-head tree.witness = refl
 
-  unary-head : (k : Unary) → entry heads (ofKind (unaryToken k)) ≡ some (λ t. give (grammar.unary k (t .start)))
+  pub unary-head : (k : Unary) → entry heads (ofKind (unaryToken k)) ≡ some (λ t. give (grammar.unary k (t .start)))
   unfolding entry
   unary-head tree.injl = refl
   unary-head tree.injr = refl
   unary-head tree.take = refl
   unary-head tree.drop = refl
 
-  binary-head : (k : Binary) → entry heads (ofKind (binaryToken k)) ≡ some (λ t. give (grammar.binary k (t .start)))
+  pub binary-head : (k : Binary) → entry heads (ofKind (binaryToken k)) ≡ some (λ t. give (grammar.binary k (t .start)))
   unfolding entry
   binary-head tree.disconnect = refl
   binary-head tree.case = refl
@@ -89,12 +89,12 @@ module _ (checks : Checks) where
   unfolding entry
   ref-head x n ts = ⊎-elim (λ i. head-is token.symbol x i ts _ refl) (λ i. head-is token.underscore x i ts _ refl) (name-kinds x n)
 
-  cmr-is : (E : Rule Expr) (k : token.Kind) (t : Token) → Is k t → (ts : List Token) (r : Token → Rule Cmr) → entry (cmrs checks E) (ofKind k) ≡ some r → cmr checks E (t ∷ ts) ≡ r t ts
+  pub cmr-is : (E : Rule Expr) (k : token.Kind) (t : Token) → Is k t → (ts : List Token) (r : Token → Rule Cmr) → entry (cmrs checks E) (ofKind k) ≡ some r → cmr checks E (t ∷ ts) ≡ r t ts
   unfolding cmr
   cmr-is E k t i ts r e = choice-is k t i ts (cmrs checks E) (λ (p : (Token → Rule Cmr) × Token). p .0 (p .1)) r e
 
   -- an expression's head, and what follows
-  expr-at : (d : ℕ) (ts : List Token) {us : List Token} {b : Head} → head checks ts ≡ got b us → expr checks (suc d) ts ≡ exprBy checks (expr checks d) b us
+  pub expr-at : (d : ℕ) (ts : List Token) {us : List Token} {b : Head} → head checks ts ≡ got b us → expr checks (suc d) ts ≡ exprBy checks (expr checks d) b us
   unfolding expr goOn
   expr-at d ts e = rw e
 
@@ -138,12 +138,12 @@ module _ (checks : Checks) where
 
   -- ---- types
 
-  type-head-is : (k : token.Kind) (t : Token) → Is k t → (ts : List Token) (r : Token → Rule TypeHead) → entry (typeHeads checks) (ofKind k) ≡ some r → typeHead checks (t ∷ ts) ≡ r t ts
+  pub type-head-is : (k : token.Kind) (t : Token) → Is k t → (ts : List Token) (r : Token → Rule TypeHead) → entry (typeHeads checks) (ofKind k) ≡ some r → typeHead checks (t ∷ ts) ≡ r t ts
   unfolding typeHead
   type-head-is k t i ts r e = choice-is k t i ts (typeHeads checks) (λ (p : (Token → Rule TypeHead) × Token). p .0 (p .1)) r e
 
   module _ (d : ℕ) (h : (us : List Token) (x : Ty) → IsType checks d us x → (rest : List Token) → Without operators rest → type checks d (us ++ rest) ≡ got x rest) where
-    atom-at : (ts : List Token) {us : List Token} {b : TypeHead} → typeHead checks ts ≡ got b us → atom checks (type checks d) ts ≡ atomBy checks (type checks d) b us
+    pub atom-at : (ts : List Token) {us : List Token} {b : TypeHead} → typeHead checks ts ≡ got b us → atom checks (type checks d) ts ≡ atomBy checks (type checks d) b us
     unfolding atom goOn
     atom-at ts e = rw e
 
@@ -163,7 +163,7 @@ module _ (checks : Checks) where
         ∙ rw (append-assoc ts (u ∷ []) rest, h _ _ k (u ∷ rest) (without-kind token.rparen j refl)) (one-of-is (token.rparen ∷ []) _ u j rest)
 
     -- behind the tokens of a type the rule stands where a further operand may follow
-    type-on : {us : List Token} {x : Ty} → IsType checks (suc d) us x → (rest : List Token) → type checks (suc d) (us ++ rest) ≡ repeat (operand operators (atom checks (type checks d))) x rest
+    pub type-on : {us : List Token} {x : Ty} → IsType checks (suc d) us x → (rest : List Token) → type checks (suc d) (us ++ rest) ≡ repeat (operand operators (atom checks (type checks d))) x rest
     unfolding type chain goOn operand
     type-on (is.atom k) rest = rw (atom-accepts-by k rest)
     type-on (is.op {ls = ls} {rs} {l} {r} o t k i m) rest =
@@ -191,7 +191,7 @@ module _ (checks : Checks) where
 
   -- ---- lines
 
-  line-is : (x : Token) → OneOf names x → (k : token.Kind) (t : Token) → Is k t → (ts : List Token) (r : Rule Line) → entry (lineTails checks x) (ofKind k) ≡ some r → line checks (x ∷ t ∷ ts) ≡ r ts
+  pub line-is : (x : Token) → OneOf names x → (k : token.Kind) (t : Token) → Is k t → (ts : List Token) (r : Rule Line) → entry (lineTails checks x) (ofKind k) ≡ some r → line checks (x ∷ t ∷ ts) ≡ r ts
   unfolding line
   line-is x n k t i ts r e = one-of-is names _ x n (t ∷ ts) ∙ choice-is k t i ts (lineTails checks x) (λ (p : Rule Line × Token). p .0) r e
 

@@ -12,11 +12,13 @@ use Rattle.records.specs.Records.{lineWords, exprWords, typeWords}
 use Rattle.records.specs.TokenKind as token
 use Rattle.records.specs.NodeKind as node
 use Rattle.records.specs.TypeKind as kind
-use Rattle.lex.specs.Longest.{starts, run, matchLen, best, lexAt}
+use Rattle.classes.specs.Classes.{starts, run}
+use Rattle.matches.specs.Longest.{matchLen, best, lexAt}
 use Rattle.lex.specs.Tokens.{Token, lexFrom, lexing}
 use Rattle.checks.specs.declared.Fault.{Fault}
 use Rattle.checks.specs.declared.Fault.the-variants.{ParseFailed, BadWordLength, EntropyInsufficient, UnknownJet, Bad2ExpNumber, NumberOutOfRange, TooDeep}
-use Rattle.checks.specs.Literals.{bitLength, log2, numberFrom}
+use Rattle.literals.specs.Literals.{bitLength}
+use Rattle.checks.specs.Powers.{log2, numberFrom}
 use Rattle.checks.specs.Jets.{pieces, same, isOneOf, known}
 use Rattle.checks.specs.Checks.{wordVerdict, failVerdict, jetVerdict, powerVerdict, Checks, checksOf}
 use Rattle.grammar.specs.Tree as tree

@@ -6,7 +6,7 @@ use mathlib.Core.Option.{none, some}
 use borrow.Author.Tests.{eqb-true}
 use Rattle.records.specs.TokenKind as token
 use Rattle.lex.specs.Tokens.{Token}
-use Rattle.checks.specs.Literals.{isKind}
+use Rattle.literals.specs.Literals.{isKind}
 use Rattle.grammar.specs.Rule.{got, Rule, goOn, _>>=_, oneOf, Table, entry, choice, perhaps}
 use Rattle.grammar.specs.Derives.{OneOf, Is}
 

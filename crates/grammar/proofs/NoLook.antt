@@ -17,7 +17,7 @@ use Rattle.checks.specs.declared.Verdict.{Verdict}
 use Rattle.checks.specs.declared.Verdict.the-variants.{Pass, Fails}
 use Rattle.checks.specs.declared.PowerVerdict.{PowerVerdict}
 use Rattle.checks.specs.declared.PowerVerdict.the-variants.{Power, BadPower}
-use Rattle.checks.specs.Literals.{isKind}
+use Rattle.literals.specs.Literals.{isKind}
 use Rattle.checks.specs.Checks.{Checks}
 use Rattle.grammar.specs.Tree as tree
 use Rattle.grammar.specs.Tree.{Nullary, Unary, Binary, Expr, Op, Ty, Line}

@@ -13,7 +13,7 @@ use Rattle.records.specs.TokenKind as token
 use Rattle.lex.specs.Tokens.{Token}
 use Rattle.checks.specs.declared.Fault.{Fault}
 use Rattle.checks.specs.declared.Fault.the-variants.{ParseFailed}
-use Rattle.checks.specs.Literals.{isKind}
+use Rattle.literals.specs.Literals.{isKind}
 use Rattle.grammar.specs.Rule.{Parsed, got, stop, Rule, goOn, _>>=_, _>>_, give, refuse, refuseAt, isOf, oneOf, Table, entry, chosen, choice, taken, perhaps, again, repeatFor, repeat}
 use Rattle.grammar.specs.Derives.{OneOf, Is}
 use Rattle.grammar.proofs.Repeat.{Steps, repeat-fuel}

@@ -14,7 +14,7 @@ use Rattle.checks.specs.declared.Verdict.{Verdict}
 use Rattle.checks.specs.declared.Verdict.the-variants.{Pass, Fails}
 use Rattle.checks.specs.declared.PowerVerdict.{PowerVerdict}
 use Rattle.checks.specs.declared.PowerVerdict.the-variants.{Power, BadPower}
-use Rattle.checks.specs.Literals.{isKind}
+use Rattle.literals.specs.Literals.{isKind}
 use Rattle.checks.specs.Checks.{Checks}
 use Rattle.grammar.specs.Tree as tree
 use Rattle.grammar.specs.Tree.{Nullary, nullaryToken, Unary, unaryToken, Binary, binaryToken, Expr, Op, opToken, Ty, Arrow, Line}
@@ -81,7 +81,7 @@ module _ (checks : Checks) where
     unfolding atom
     atom-obeys = obeys-then type-head-obeys atom-by-obeys
 
-    operand-obeys : (l : Ty) → Obeys (operand operators (atom checks T) l) (Stepped (λ x us. IsType checks (suc d) us x) l)
+    pub operand-obeys : (l : Ty) → Obeys (operand operators (atom checks T) l) (Stepped (λ x us. IsType checks (suc d) us x) l)
     unfolding operand
     operand-obeys l = obeys-then (obeys-perhaps {P = λ o t. Is (opToken o) t} operators ((λ t i. i) ▹ (λ t i. i) ▹ all)) go
       where

@@ -3,8 +3,9 @@
 -- plus one, so what is recorded last has the count as its number.
 use Prim.Native.Nat.{ℕ, suc, _+_}
 use mathlib.Core.Bool.{Bool}
-use mathlib.Core.List.{List, [], _∷_, _++_}
+use mathlib.Core.List.{List, [], _∷_, _++_, map}
 use Rattle.records.specs.Base.{if_then_else_}
+use Rattle.records.specs.Records.{lineWords, exprWords, typeWords}
 use Rattle.records.specs.NodeKind as node
 use Rattle.records.specs.TypeKind as kind
 use Rattle.records.specs.declared.Span.{Span}
@@ -117,3 +118,14 @@ linesExprs (l ∷ ls) e = exprRecords (linePart l) e ++ linesExprs ls (e + exprs
 unfoldable pub linesTypes : List Line → (before : ℕ) → List TypeRecord
 linesTypes [] t = []
 linesTypes (l ∷ ls) t = lineTypes l t ++ linesTypes ls (t + typesIn l)
+
+-- ---- the rows of the tables: the records' words
+
+abbrev pub lineRows : List Line → List (List ℕ)
+lineRows ls = map lineWords (lineRecords ls 0 0)
+
+abbrev pub exprRowsOf : List Line → List (List ℕ)
+exprRowsOf ls = map exprWords (linesExprs ls 0)
+
+abbrev pub typeRowsOf : List Line → List (List ℕ)
+typeRowsOf ls = map typeWords (linesTypes ls 0)

@@ -9,7 +9,7 @@ use Rattle.records.specs.TokenKind as token
 use Rattle.lex.specs.Tokens.{Token}
 use Rattle.checks.specs.declared.Fault.{Fault}
 use Rattle.checks.specs.declared.Fault.the-variants.{ParseFailed}
-use Rattle.checks.specs.Literals.{isKind}
+use Rattle.literals.specs.Literals.{isKind}
 
 -- What a rule answers: a value and the tokens that are left; or a fault and the tokens that are left, the first of which is
 -- refused (none left: end of source is).

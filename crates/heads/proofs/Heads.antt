@@ -9,11 +9,11 @@ use Rattle.records.specs.TokenKind as token
 use Rattle.records.specs.declared.TokenRecord.{TokenRecord}
 use Rattle.records.specs.declared.kinds.NodeKind.{NodeKind}
 use Rattle.lex.specs.Tokens.{Token, recordOf}
-use Rattle.lex.specs.Code.{NotIn}
+use Rattle.matches.specs.Code.{NotIn}
 use Rattle.checks.specs.declared.Fault.the-variants.{ParseFailed}
 use Rattle.checks.specs.declared.Verdict.{Verdict}
 use Rattle.checks.specs.declared.Verdict.the-variants.{Pass, Fails}
-use Rattle.checks.specs.Literals.{bitLength, spanText}
+use Rattle.literals.specs.Literals.{bitLength, spanText}
 use Rattle.checks.specs.Checks.{wordVerdict, failVerdict, jetVerdict, Checks, checksOf}
 use Rattle.cursor.specs.declared.Cursor.{Cursor}
 use Rattle.cursor.specs.declared.ParseRefusal.{ParseRefusal}

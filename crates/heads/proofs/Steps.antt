@@ -18,7 +18,7 @@ use Rattle.records.specs.declared.numbers.ExprNo.{ExprNo}
 use Rattle.lex.specs.Tokens.{Token, recordOf}
 use Rattle.checks.specs.declared.Fault.the-variants.{ParseFailed}
 use Rattle.checks.specs.declared.Verdict.{Verdict}
-use Rattle.checks.specs.Literals.{bitLength, spanText}
+use Rattle.literals.specs.Literals.{bitLength, spanText}
 use Rattle.checks.specs.Checks.{wordVerdict, failVerdict, jetVerdict}
 use Rattle.cursor.specs.declared.Cursor.{Cursor}
 use Rattle.cursor.specs.declared.ParseRefusal.{ParseRefusal}

@@ -13,12 +13,12 @@ use Rattle.records.specs.declared.kinds.NodeKind.{NodeKind}
 use Rattle.records.specs.declared.numbers.ByteOffset.{ByteOffset}
 use Rattle.records.specs.declared.numbers.ExprNo.{ExprNo}
 use Rattle.lex.specs.Tokens.{Token}
-use Rattle.lex.specs.Code.{NotIn}
+use Rattle.matches.specs.Code.{NotIn}
 use Rattle.checks.specs.declared.Fault.{Fault}
 use Rattle.checks.specs.declared.Fault.the-variants.{ParseFailed}
 use Rattle.checks.specs.declared.Verdict.{Verdict}
 use Rattle.checks.specs.declared.Verdict.the-variants.{Pass, Fails}
-use Rattle.checks.specs.Literals.{bitLength}
+use Rattle.literals.specs.Literals.{bitLength}
 use Rattle.checks.specs.Checks.{wordVerdict, failVerdict}
 use Rattle.cursor.specs.declared.Cursor.{Cursor}
 use Rattle.cursor.specs.Cursor.{refusalAt, stepped, Reached}

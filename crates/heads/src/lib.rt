@@ -6,7 +6,7 @@ ghost use lib.ListN.{length};
 ghost use Rattle.records.specs.Limits.{sourceLimit};
 ghost use Rattle.lex.specs.Tokens.{recordOf};
 ghost use Rattle.checks.specs.Checks.{jetVerdict, checksOf};
-ghost use Rattle.checks.specs.Literals.{spanText};
+ghost use Rattle.literals.specs.Literals.{spanText};
 ghost use Rattle.cursor.specs.Tokens.{tokenOf, ofKind, tokensLeft};
 ghost use Rattle.cursor.specs.Cursor.{Ready};
 ghost use Rattle.grammar.specs.Rule.{isOf};
@@ -152,7 +152,7 @@ fn parse_literal(source: &[u8], tokens: &[u32], count: u32, c: Cursor) -> Litera
             let kind = t.kind;
             let span = t.span;
             if is_literal(kind) {
-                return LiteralAnswer::Read(span, checks::bit_length(kind, span.len), d);
+                return LiteralAnswer::Read(span, literals::bit_length(kind, span.len), d);
             }
             LiteralAnswer::Refused(cursor::refusal(source, tokens, count, c, Fault::ParseFailed))
         }

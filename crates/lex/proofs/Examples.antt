@@ -8,7 +8,8 @@ use Rattle.records.specs.Base.{bytes}
 use Rattle.records.specs.TokenKind as token
 use Rattle.lex.specs.declared.LexEnd.{LexEnd}
 use Rattle.lex.specs.declared.LexEnd.the-variants.{Tokens, NoToken}
-use Rattle.lex.specs.Longest.{starts, run, matchLen, best, lexAt}
+use Rattle.classes.specs.Classes.{starts, run}
+use Rattle.matches.specs.Longest.{matchLen, best, lexAt}
 use Rattle.lex.specs.Tokens.{lexFrom, lexing, rowsOf}
 
 -- a source, the rows of its tokens, and how lexing ends

@@ -16,13 +16,13 @@ use Rattle.records.specs.Records.{tokenWords}
 use Rattle.records.specs.declared.kinds.TokenKind.{TokenKind}
 use Rattle.tables.specs.Tables.{tableOf, written}
 use Rattle.tables.proofs.Laws.{Wide, none, wide-map, table-append, table-again}
-use Rattle.lex.specs.declared.Lexed.{Lexed}
-use Rattle.lex.specs.declared.Lexed.the-variants.{Token as OfKind, Skip, NoMatch}
+use Rattle.matches.specs.declared.Lexed.{Lexed}
+use Rattle.matches.specs.declared.Lexed.the-variants.{Token as OfKind, Skip, NoMatch}
 use Rattle.lex.specs.declared.LexEnd.{LexEnd}
 use Rattle.lex.specs.declared.LexEnd.the-variants.{Tokens, NoToken, TooManyTokens}
 use Rattle.lex.specs.declared.Next.{Next}
 use Rattle.lex.specs.declared.Next.the-variants.{Go, End}
-use Rattle.lex.specs.Longest.{lexAt}
+use Rattle.matches.specs.Longest.{lexAt}
 use Rattle.lex.specs.Tokens.{Token, recordOf, Lexing, ends, after, stepBy, lexFrom, lexing, kept, rowsOf, tokenTable}
 use Rattle.lex.specs.Code.{nextOf, tokenRow, tableNext}
 use Rattle.lex.proofs.Steps.{skip-fits, token-fits}

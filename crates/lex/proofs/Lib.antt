@@ -1,6 +1,3 @@
-pub mod Laws
-pub mod Longest
-pub mod Arms
 pub mod Steps
 pub mod Going
 pub mod Answers

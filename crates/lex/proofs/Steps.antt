@@ -1,43 +1,21 @@
--- One step of the lexer: what the code has after `lex_one`, and that a match is not empty and lies inside. Assumes nothing.
+-- One step of the lexer: what the code has after `lex_one`. Assumes nothing.
 use Prim.Native.Nat.{ℕ, _+_, _-_, _≤_, _<_}
 use mathlib.Core.Path.{_≡_, refl, sym, ap, _∙_}
-use mathlib.Core.List.{List, [], _∷_}
-use mathlib.Core.Option.{Option, none, some}
+use mathlib.Core.List.{List}
 use native.Mathlib.Omega.{arith}
 use lib.ListN.{length, take, drop, length-drop}
 use borrow.Author.Tests.{lt-ltb, le-ltb}
 use Rattle.records.specs.Limits.{recordLimit, tokenWidth}
-use Rattle.records.specs.TokenKind as token
 use Rattle.records.specs.declared.kinds.TokenKind.{TokenKind}
 use Rattle.tables.specs.Tables.{written}
-use Rattle.lex.specs.declared.Lexed.{Lexed}
-use Rattle.lex.specs.declared.Lexed.the-variants.{Token as OfKind, Skip, NoMatch}
+use Rattle.classes.proofs.Laws.{part-rest}
+use Rattle.matches.specs.declared.Lexed.{Lexed}
+use Rattle.matches.specs.declared.Lexed.the-variants.{Token as OfKind, Skip, NoMatch}
+use Rattle.matches.specs.Longest.{lexAt}
+use Rattle.matches.proofs.Sizes.{Sized, match-sized}
 use Rattle.lex.specs.declared.LexEnd.the-variants.{NoToken, TooManyTokens}
 use Rattle.lex.specs.declared.Next.the-variants.{Go, End}
-use Rattle.lex.specs.Rows.{rows}
-use Rattle.lex.specs.Longest.{made, lexAt}
-use Rattle.lex.specs.Sets.{Lexes, wins, nothing}
 use Rattle.lex.specs.Code.{nextOf, tokenRow, tableNext}
-use Rattle.lex.proofs.Laws.{part-rest}
-use Rattle.lex.proofs.Longest.{lexed}
-
--- ---- a match is not empty and lies inside
-
-abbrev pub Sized : List ℕ → Lexed → Type 0
-Sized s NoMatch = Unit {0}
-Sized s (Skip n) = (0 < n) × (n ≤ length s)
-Sized s (OfKind k n) = (0 < n) × (n ≤ length s)
-
-sized : (s : List ℕ) (l : Lexed) → Lexes rows s l → Sized s l
-sized s l (nothing f) = tt
-sized s l (wins before r after n e w is) = rw is (go (r .kind))
-  where
-    go : (k : Option token.Kind) → Sized s (made k n)
-    go none = (w .some, w .front .inside)
-    go (some k) = (w .some, w .front .inside)
-
-pub match-sized : (s : List ℕ) → Sized s (lexAt s)
-match-sized s = sized s (lexAt s) (lexed s)
 
 -- ---- what stands at `at`, as `lex_one` said of the part from there on
 

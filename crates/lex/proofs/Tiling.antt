@@ -13,13 +13,13 @@ use borrow.Author.Tests.{ltb-true, ltb-false}
 use Rattle.records.specs.Base.{if_then_else_}
 use Rattle.records.specs.Limits.{recordLimit}
 use Rattle.records.specs.declared.kinds.TokenKind.{TokenKind}
-use Rattle.lex.specs.declared.Lexed.{Lexed}
-use Rattle.lex.specs.declared.Lexed.the-variants.{Token as OfKind, Skip, NoMatch}
+use Rattle.matches.specs.declared.Lexed.{Lexed}
+use Rattle.matches.specs.declared.Lexed.the-variants.{Token as OfKind, Skip, NoMatch}
 use Rattle.lex.specs.declared.LexEnd.the-variants.{Tokens, NoToken, TooManyTokens}
-use Rattle.lex.specs.Longest.{lexAt}
+use Rattle.matches.specs.Longest.{lexAt}
 use Rattle.lex.specs.Tokens.{Token, Lexing, ends, after, stepBy, lexFrom, lexing}
 use Rattle.lex.specs.Tiles.{Tiles, end, skip, token, InOrder, Inside}
-use Rattle.lex.proofs.Steps.{Sized, match-sized}
+use Rattle.matches.proofs.Sizes.{Sized, match-sized}
 use Rattle.lex.proofs.Going.{front-none, front-skip, front-full, front-token}
 
 -- ---- what is lexed tiles

@@ -1,6 +1,3 @@
-pub mod Rows
-pub mod Longest
-pub mod Sets
 pub mod Code
 pub mod Tokens
 pub mod Tiles

@@ -4,8 +4,8 @@ use Prim.Native.Nat.{ℕ, _+_, _≤_, _<_}
 use mathlib.Core.Path.{_≡_}
 use mathlib.Core.List.{List, [], _∷_, _++_}
 use lib.ListN.{length, take, drop}
-use Rattle.lex.specs.declared.Lexed.the-variants.{Token as OfKind, Skip}
-use Rattle.lex.specs.Longest.{lexAt}
+use Rattle.matches.specs.declared.Lexed.the-variants.{Token as OfKind, Skip}
+use Rattle.matches.specs.Longest.{lexAt}
 use Rattle.lex.specs.Tokens.{Token}
 
 -- s, which stands at the offset `at`, is the texts of skips and of these tokens, in order

@@ -15,13 +15,13 @@ use Rattle.tables.specs.Tables.{tableOf}
 use Rattle.text.specs.Check.{checkText}
 use Rattle.text.specs.declared.TextAnswer.{TextAnswer}
 use Rattle.text.specs.declared.TextAnswer.the-variants.{Valid, BadAt}
-use Rattle.lex.specs.declared.Lexed.{Lexed}
-use Rattle.lex.specs.declared.Lexed.the-variants.{Token as OfKind, Skip, NoMatch}
+use Rattle.matches.specs.declared.Lexed.{Lexed}
+use Rattle.matches.specs.declared.Lexed.the-variants.{Token as OfKind, Skip, NoMatch}
 use Rattle.lex.specs.declared.LexAnswer.{LexAnswer}
 use Rattle.lex.specs.declared.LexAnswer.the-variants.{ShortTable, LongSource, NotUtf8, Ended}
 use Rattle.lex.specs.declared.LexEnd.{LexEnd}
 use Rattle.lex.specs.declared.LexEnd.the-variants.{Tokens, NoToken, TooManyTokens}
-use Rattle.lex.specs.Longest.{lexAt}
+use Rattle.matches.specs.Longest.{lexAt}
 
 -- ---- tokens
 

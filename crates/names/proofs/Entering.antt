@@ -15,18 +15,19 @@ use Rattle.records.specs.ErrorKind as error
 use Rattle.tables.specs.Tables.{tableOf, wordAt, written}
 use Rattle.tables.proofs.Laws.{Wide, wide-map, table-append, table-replace}
 use Rattle.lex.specs.Tokens.{Token}
-use Rattle.checks.specs.Literals.{spanText}
+use Rattle.literals.specs.Literals.{spanText}
 use Rattle.cursor.specs.Cursor.{nextNumber}
 use Rattle.cursor.proofs.Steps.{next-below}
 use Rattle.grammar.specs.Tree.{Expr, Line}
 use Rattle.grammar.specs.Part.{partOf, partIf, spanOf}
-use Rattle.grammar.specs.Recorded.{partNo, linePart, exprsOf, linesExprs}
+use Rattle.grammar.specs.Recorded.{partNo, linePart, exprsOf, linesExprs, exprRowsOf}
 use Rattle.grammar.specs.Places.{Each}
 use Rattle.grammar.proofs.Takes.{total}
-use Rattle.ast.specs.Parsing.{exprRowsOf}
-use Rattle.names.specs.Names.{Text, illegal, findFrom, texts, find, namesOf, Placed, placed, numberOf, firstFrom, nameRecord, nameRows, Error, errorRecord, placeOf, repeated, lineErrors, errorsOf, errorRows}
+use Rattle.symbols.specs.Symbols.{Text, illegal, findFrom, texts, find}
+use Rattle.names.specs.Names.{namesOf, Placed, placed, numberOf, firstFrom, nameRecord, nameRows, Error, errorRecord, placeOf, repeated, lineErrors, errorsOf, errorRows}
 use Rattle.names.specs.Uses.{In}
-use Rattle.names.specs.Held.{spanAt, nameText, textsFrom, InPlace, Held}
+use Rattle.symbols.specs.Texts.{spanAt, nameText, textsFrom}
+use Rattle.names.specs.Held.{InPlace, Held}
 use Rattle.names.specs.Code.{nameOf, knownEntry, nameEntry, Enters}
 use Rattle.names.specs.declared.NameCounts.{NameCounts}
 use Rattle.names.specs.declared.Entry.{Entry}

@@ -1,10 +1,9 @@
 -- Examples of names, of the types that count and of the errors of lines, by computing from the text of a source; and of uses.
 use Prim.Native.Nat.{ℕ}
 use Prim.Native.String.{String}
-use mathlib.Core.Bool.{Bool, true, false}
 use mathlib.Core.Path.{_≡_, refl}
 use mathlib.Core.Logic.{_⊎_, inl, inr}
-use mathlib.Core.List.{List, [], _∷_, map}
+use mathlib.Core.List.{List, [], _∷_}
 use native.Mathlib.Omega.{arith}
 use Rattle.records.specs.Base.{bytes}
 use Rattle.records.specs.TokenKind as token
@@ -16,7 +15,8 @@ use Rattle.grammar.specs.Tree.{Ty, Arrow, Line}
 use Rattle.grammar.specs.Rule.{Parsed, got, stop}
 use Rattle.grammar.specs.Grammar.{lines}
 use Rattle.grammar.proofs.Examples as grammar
-use Rattle.names.specs.Names.{illegal, findFrom, find, enter, namesOf, firstFrom, firstExpression, nameRecord, nameRows, typesIn, typesFor, lineErrors, errorsFrom, errorsOf, errorRows}
+use Rattle.symbols.specs.Symbols.{illegal, findFrom, find}
+use Rattle.names.specs.Names.{enter, namesOf, firstFrom, firstExpression, nameRecord, nameRows, typesIn, typesFor, lineErrors, errorsFrom, errorsOf, errorRows}
 use Rattle.names.specs.Uses.{Refers, Uses}
 
 -- where `opened` unfolds, all of these compute
@@ -33,10 +33,6 @@ abbrev pub linesOf : String → List Line
 linesOf s = readLines (lines (checksOf []) (lexing (bytes s) .tokens))
 
 -- ---- names
-
-pub illegals : map (λ (s : String). illegal (bytes s)) ("_" ∷ "prim" ∷ "primary" ∷ "Prim" ∷ "pri" ∷ "_prim" ∷ []) ≡ true ∷ true ∷ true ∷ false ∷ false ∷ false ∷ []
-unfolding opened
-illegals = refl
 
 -- by first legal line, even a type line; an illegal line counts for nothing: start, length, expression, node
 pub by-first-line : nameRows (linesOf "_ := a b : 1 -> 1 a := unit b := take a") ≡ (7 ∷ 1 ∷ 4 ∷ 0 ∷ []) ∷ (18 ∷ 1 ∷ 2 ∷ 0 ∷ []) ∷ []

@@ -14,7 +14,8 @@ use Rattle.lex.specs.Tokens.{Token}
 use Rattle.checks.specs.Jets.{same}
 use Rattle.checks.proofs.Jets.{same-self, same-equal}
 use Rattle.grammar.specs.Tree.{Line}
-use Rattle.names.specs.Names.{Text, illegal, findFrom, texts, find, enter, namesOf}
+use Rattle.symbols.specs.Symbols.{Text, illegal, findFrom, texts, find}
+use Rattle.names.specs.Names.{enter, namesOf}
 use Rattle.names.specs.Uses.{In, HasLine}
 use Rattle.names.proofs.Lists.{Once, in-left, in-right, in-either, in-map}
 

@@ -1,7 +1,6 @@
 pub mod Lists
 pub mod Laws
 pub mod Parsed
-pub mod Texts
 pub mod Steps
 pub mod Reading
 pub mod OneMore

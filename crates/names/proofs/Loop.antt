@@ -10,9 +10,8 @@ use Rattle.tables.specs.Tables.{tableOf, wordAt}
 use Rattle.tables.proofs.Laws.{wide-map, table-cleared}
 use Rattle.grammar.specs.Tree.{Line}
 use Rattle.grammar.specs.Part.{spanOf}
-use Rattle.grammar.specs.Recorded.{partNo, linePart, exprsOf, typesIn, lineRecord, lineRecords}
+use Rattle.grammar.specs.Recorded.{partNo, linePart, exprsOf, typesIn, lineRecord, lineRecords, lineRows}
 use Rattle.grammar.proofs.Takes.{total, line-records}
-use Rattle.ast.specs.Parsing.{lineRows}
 use Rattle.names.specs.Names.{namesOf, nameRows, errorsFrom, errorRows}
 use Rattle.names.specs.Held.{Held, HeldLines, Entered}
 use Rattle.names.specs.Code.{nameEntry, lineEntry, Enters}

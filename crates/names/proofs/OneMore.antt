@@ -13,7 +13,8 @@ use Rattle.checks.specs.Jets.{same}
 use Rattle.grammar.specs.Tree.{Expr, Line}
 use Rattle.grammar.specs.Recorded.{exprsOf}
 use Rattle.grammar.proofs.Takes.{total}
-use Rattle.names.specs.Names.{Text, illegal, enter, namesOf, Placed, placed, orElse, firstFrom, firstExpression, Error, repeated, lineErrors, errorsFrom, errorsOf}
+use Rattle.symbols.specs.Symbols.{Text, illegal}
+use Rattle.names.specs.Names.{enter, namesOf, Placed, placed, orElse, firstFrom, firstExpression, Error, repeated, lineErrors, errorsFrom, errorsOf}
 use Rattle.names.specs.Uses.{In}
 use Rattle.names.proofs.Laws.{same-false}
 

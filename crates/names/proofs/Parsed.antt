@@ -19,13 +19,12 @@ use Rattle.grammar.specs.Derives as is
 use Rattle.grammar.specs.Derives.{IsFile}
 use Rattle.grammar.specs.Part as part
 use Rattle.grammar.specs.Part.{Part, weight}
-use Rattle.grammar.specs.Recorded.{linePart, exprsOf, linesExprs}
+use Rattle.grammar.specs.Recorded.{linePart, exprsOf, linesExprs, lineRows, exprRowsOf}
 use Rattle.grammar.specs.Places.{Each, places, filePlaces}
 use Rattle.grammar.proofs.Takes.{total, lines-exprs}
 use Rattle.grammar.proofs.Records.{each-front, each-back}
 use Rattle.grammar.proofs.Accepts.{lines-derived}
 use Rattle.grammar.proofs.Places.{Made, none, refer, own, behind, before, LineMade, line, line-made, places-few}
-use Rattle.ast.specs.Parsing.{lineRows, exprRowsOf}
 use Rattle.names.specs.Uses.{Refers}
 use Rattle.names.specs.Held.{InPlace, Held, HeldLines}
 

@@ -15,10 +15,9 @@ use Rattle.grammar.specs.Tree as tree
 use Rattle.grammar.specs.Tree.{Expr, Line}
 use Rattle.grammar.specs.Part as part
 use Rattle.grammar.specs.Part.{Part, partOf, weight}
-use Rattle.grammar.specs.Recorded.{partNo, exprRecords, lineRecord, lineRecords, linesExprs, linePart, exprsOf, typesIn}
+use Rattle.grammar.specs.Recorded.{partNo, exprRecords, lineRecord, lineRecords, linesExprs, linePart, exprsOf, typesIn, lineRows, exprRowsOf}
 use Rattle.grammar.proofs.Takes.{total, expr-records, line-records, lines-exprs}
 use Rattle.grammar.proofs.Snoc.{Recording, exprs-recording, lines-recording}
-use Rattle.ast.specs.Parsing.{lineRows, exprRowsOf}
 use Rattle.names.specs.Names.{placeOf}
 
 -- ---- lists

@@ -1,34 +1,19 @@
--- What the code of names reads and leaves: the tables and the source of lines that were parsed, and a table of names by its words.
-use Prim.Native.Nat.{ℕ, zero, suc, _+_, _≤_}
+-- What the code of names reads and leaves: the tables and the source of lines that were parsed.
+use Prim.Native.Nat.{ℕ, _+_, _≤_}
 use mathlib.Core.Path.{_≡_}
-use mathlib.Core.List.{List, [], _∷_}
+use mathlib.Core.List.{List}
 use lib.ListN.{length}
 use Rattle.records.specs.Limits.{recordLimit, lineWidth, exprWidth, nameWidth, errorWidth}
-use Rattle.records.specs.declared.Span.{Span}
-use Rattle.tables.specs.Tables.{tableOf, wordAt}
+use Rattle.tables.specs.Tables.{tableOf}
 use Rattle.lex.specs.Tokens.{Token}
-use Rattle.checks.specs.Literals.{spanText}
+use Rattle.literals.specs.Literals.{spanText}
 use Rattle.grammar.specs.Tree.{Line}
 use Rattle.grammar.specs.Part.{spanOf}
-use Rattle.grammar.specs.Recorded.{linePart, linesExprs}
+use Rattle.grammar.specs.Recorded.{linePart, linesExprs, lineRows, exprRowsOf}
 use Rattle.grammar.specs.Places.{Each}
-use Rattle.ast.specs.Parsing.{lineRows, exprRowsOf}
-use Rattle.names.specs.Names.{Text, namesOf, nameRows, errorsOf, errorRows}
+use Rattle.names.specs.Names.{namesOf, nameRows, errorsOf, errorRows}
 use Rattle.names.specs.Uses.{Refers}
 use Rattle.names.specs.declared.NameCounts.{NameCounts}
-
--- the span that the words `place` and the next of a record say
-abbrev pub spanAt : (width : ℕ) → (table : List ℕ) → (number place : ℕ) → Span
-spanAt w t n j = record { start = record { 0 = wordAt w t n j }; len = wordAt w t n (suc j) }
-
--- the text of the name number n
-unfoldable pub nameText : (source names : List ℕ) → (n : ℕ) → Text
-nameText source names n = spanText source (spanAt nameWidth names n 0)
-
--- the texts of the names from number k on, so many
-unfoldable pub textsFrom : (source names : List ℕ) → (k count : ℕ) → List Text
-textsFrom source names k zero = []
-textsFrom source names k (suc c) = nameText source names k ∷ textsFrom source names (suc k) c
 
 -- its text stands where the token says
 abbrev pub InPlace : (source : List ℕ) → Token → Type 0

@@ -1,47 +1,24 @@
 -- Document 01, Names and nodes, by text: the names of a program, the expression and the types that count for each, and the
 -- errors of lines. The Rust's step 1.
-use Prim.Native.Nat.{ℕ, zero, suc, _+_}
-use mathlib.Core.Bool.{Bool, _||_}
+use Prim.Native.Nat.{ℕ, _+_}
 use mathlib.Core.List.{List, [], _∷_, _++_, map, foldl}
 use mathlib.Core.Option.{Option, none, some, Option·map}
 use lib.Dec.{eqb}
-use Rattle.records.specs.Base.{if_then_else_, bytes}
+use Rattle.records.specs.Base.{if_then_else_}
 use Rattle.records.specs.ErrorKind as error
 use Rattle.records.specs.Records.{nameWords, errorWords}
 use Rattle.records.specs.declared.Span.{Span}
 use Rattle.records.specs.declared.NameRecord.{NameRecord}
 use Rattle.records.specs.declared.ErrorRecord.{ErrorRecord}
-use Rattle.lex.specs.Rows.{word}
-use Rattle.lex.specs.Longest.{starts}
 use Rattle.lex.specs.Tokens.{Token}
 use Rattle.checks.specs.Jets.{same}
 use Rattle.grammar.specs.Tree.{Expr, Ty, present, Arrow, Line, typesOf}
 use Rattle.grammar.specs.Part as part
 use Rattle.grammar.specs.Part.{Part, partOf, spanOf}
 use Rattle.grammar.specs.Recorded.{partNo, exprsOf}
-
-abbrev pub Text : Type 0
-Text = List ℕ
-
--- a name that is `_` or begins with `prim`
-unfoldable pub illegal : Text → Bool
-illegal x = same x (bytes "_") || starts (word (bytes "prim")) x
+use Rattle.symbols.specs.Symbols.{Text, illegal, find}
 
 -- ---- names, each by the token where it stands in its first legal line, even a type line
-
--- the number of the first of these texts that is x, if they count from k; 0 if none is
-unfoldable pub findFrom : (k : ℕ) → List Text → (x : Text) → ℕ
-findFrom k [] x = 0
-findFrom k (y ∷ ys) x =
-    let later : ℕ = findFrom (suc k) ys x in
-    if same y x then k else later
-
-abbrev pub texts : List Token → List Text
-texts ns = map (λ (n : Token). n .text) ns
-
--- Names are numbered by first legal line; a text that has none is 0.
-unfoldable pub find : (names : List Token) → (x : Text) → ℕ
-find ns x = findFrom 1 (texts ns) x
 
 -- the names after one line more: its name is new if it is legal and not there yet
 unfoldable pub enter : List Token → Line → List Token

@@ -9,7 +9,8 @@ use Rattle.lex.specs.Tokens.{Token}
 use Rattle.grammar.specs.Tree.{Line}
 use Rattle.grammar.specs.Part as part
 use Rattle.grammar.specs.Part.{Part, partIf}
-use Rattle.names.specs.Names.{Text, illegal, firstExpression}
+use Rattle.symbols.specs.Symbols.{Text, illegal}
+use Rattle.names.specs.Names.{firstExpression}
 
 -- a stands in the list
 abbrev pub In : {A : Type 0} → A → List A → Type 0

@@ -6,10 +6,8 @@ ghost use lib.ListN.{length};
 ghost use Rattle.records.specs.Limits.{recordLimit, nameWidth, errorWidth};
 ghost use Rattle.records.specs.Records.{nameWords, errorWords};
 ghost use Rattle.tables.specs.Tables.{written};
-ghost use Rattle.checks.specs.Jets.{same};
 ghost use Rattle.grammar.specs.Tree.{Line};
-ghost use Rattle.names.specs.Names.{illegal, findFrom};
-ghost use Rattle.names.specs.Held.{spanAt, nameText, textsFrom, HeldLines, Entered};
+ghost use Rattle.names.specs.Held.{HeldLines, Entered};
 ghost use Rattle.names.specs.Code.{knownEntry, legalEntry, nameEntry, lineEntry, Enters};
 use records::ErrorRecord;
 use records::ExprRecord;
@@ -38,65 +36,12 @@ pub enum Entry {
     Nothing,
 }
 
-// Whether two texts are the same.
-fn same_text(a: &[u8], b: &[u8]) -> bool
-    ensures { λ r. ⌜ r ≡ same (now (a .entry)) (now (b .entry)) ⌝ }
-{
-    if a.len() != b.len() {
-        return false;
-    }
-    lex::stands(a, b)
-}
-
-// Whether no line may have this name: it is `_` or begins with `prim`.
-pub fn is_illegal(text: &[u8]) -> bool
-    ensures { λ r. ⌜ r ≡ illegal (now (text .entry)) ⌝ }
-{
-    if same_text(text, b"_") {
-        return true;
-    }
-    lex::stands(text, b"prim")
-}
-
-// The span of a name, from its record.
-pub fn name_span(names: &[u32], number: NameNo) -> Span
-    ensures { λ r. ⌜ r ≡ spanAt nameWidth (now (names .entry)) (number .0) 0 ⌝ }
-{
-    let k = number.0;
-    Span {
-        start: ByteOffset(tables::word(names, NameRecord::WORDS, k, NameRecord::START)),
-        len: tables::word(names, NameRecord::WORDS, k, NameRecord::LEN),
-    }
-}
-
-// The text of a name, as the very part of the source.
-fn name_text<'a>(source: &'a [u8], names: &[u32], number: NameNo) -> &'a [u8]
-    ensures { λ r. ⌜ now r ≡ nameText (now (source .entry)) (now (names .entry)) (number .0) ⌝ }
-{
-    cursor::span_text(source, name_span(names, number))
-}
-
-// The number of the first name with this text; 0 if there is none.
-pub fn find_name(source: &[u8], names: &[u32], count: u32, text: &[u8]) -> NameNo
-    ensures { λ r. ⌜ r .0 ≡ findFrom 1 (textsFrom (now (source .entry)) (now (names .entry)) 1 count) (now (text .entry)) ⌝ }
-{
-    let mut i: u32 = 0;
-    while i < count {
-        i += 1;
-        let name = name_text(source, names, NameNo(i));
-        if same_text(name, text) {
-            return NameNo(i);
-        }
-    }
-    NameNo(0)
-}
-
 // What a line with this name does, if the name is known: a first expression counts, a later one is an error.
 fn known_entry(exprs: &[u32], names: &[u32], known: NameNo, name: Span, expr: ExprNo) -> Entry
     ensures { λ r. ⌜ r ≡ knownEntry (now (exprs .entry)) (now (names .entry)) (known .0) name (expr .0) ⌝ }
 {
     if tables::word(names, NameRecord::WORDS, known.0, NameRecord::EXPR) == 0 {
-        let span = name_span(names, known);
+        let span = symbols::name_span(names, known);
         return Entry::Known(
             known,
             NameRecord {
@@ -143,7 +88,7 @@ fn name_entry(
     ensures { λ r. ⌜ r ≡ nameEntry (now (source .entry)) (now (exprs .entry)) (now (names .entry)) count name (expr .0) ⌝ }
 {
     let text = cursor::span_text(source, name);
-    if is_illegal(text) {
+    if symbols::is_illegal(text) {
         let start = name.start;
         return Entry::Wrong(ErrorRecord {
             kind: ErrorKind(ErrorKind::ILLEGAL),
@@ -154,7 +99,7 @@ fn name_entry(
     legal_entry(
         exprs,
         names,
-        find_name(source, names, count, text),
+        symbols::find_name(source, names, count, text),
         name,
         expr,
     )

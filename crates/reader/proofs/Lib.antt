@@ -1,3 +1,4 @@
-pub mod Whole
-pub mod Steps
+pub mod Answers
 pub mod Fits
+pub mod Steps
+pub mod Whole

@@ -19,9 +19,10 @@ use Rattle.lex.proofs.Tiling.{tiling, tokens-lie, tokens-few}
 use Rattle.checks.specs.Checks.{checksOf}
 use Rattle.grammar.specs.Tree.{Line}
 use Rattle.grammar.specs.Rule.{Parsed, got, stop}
-use Rattle.grammar.specs.Grammar.{lines}
+use Rattle.grammar.specs.Recorded.{lineRecords, linesExprs, linesTypes, lineRows, exprRowsOf}
+use Rattle.cursor.specs.Cursor.{placeOf}
 use Rattle.ast.specs.Parsing as ast
-use Rattle.ast.specs.Parsing.{tables, parsing, linesIn, tokensIn, lineRows, exprRowsOf, endBy, parsedBy}
+use Rattle.ast.specs.Parsing.{tables, parsing, linesIn, tokensIn, endBy, parsedBy}
 use Rattle.ends.specs.declared.Counts.{Counts}
 use Rattle.ends.specs.declared.ParseAnswer.{ParseAnswer}
 use Rattle.ends.specs.declared.ParseAnswer.the-variants.{NotLexed, Parsed as WasParsed}
@@ -30,16 +31,15 @@ use Rattle.ends.specs.declared.ParseEnd.the-variants.{Lines, Refused as NotPars
 use Rattle.ast.proofs.Whole.{has-room, lex-ended}
 use Rattle.names.specs.Held.{HeldLines}
 use Rattle.names.proofs.Parsed.{parsed-held}
-use Rattle.names.specs.Names.{namesOf, errorsFrom, errorRows}
 use Rattle.names.specs.Held.{Held}
-use Rattle.walk.specs.Walk.{final, namesTo}
-use Rattle.walk.specs.Nodes.{walked, nodeRows, nodeRowsFrom, namedRows, namedRowsFrom}
 use Rattle.reader.specs.declared.AfterParse.{AfterParse}
 use Rattle.reader.specs.declared.AfterParse.the-variants.{Untouched, Cleared, Parsed as Rest}
-use Rattle.reader.specs.declared.InnerCounts.{InnerCounts}
-use Rattle.reader.specs.declared.InnerAnswer.{InnerAnswer}
-use Rattle.reader.specs.declared.InnerAnswer.the-variants.{Read, Refused}
-use Rattle.reader.specs.Inner.{Tables, eight, shortBy, holding, innerBy, leftBy, innerAll, tablesAfter, nextBy, Resolves}
+use Rattle.ends.specs.declared.ReadCounts.{ReadCounts}
+use Rattle.ends.specs.declared.ReadAnswer.{ReadAnswer}
+use Rattle.ends.specs.declared.ReadAnswer.the-variants.{Read, Refused}
+use Rattle.reader.proofs.Answers.{fault-answer, fault-left, readingBy, by-lexer, counts-held, tables-held}
+use Rattle.reader.specs.Reading.{Reading, Tables, eight, shortBy, nothing, holding, readInto, after, answerOf}
+use Rattle.reader.specs.Steps.{nextBy, Resolves}
 
 -- ---- room
 
@@ -65,20 +65,21 @@ module _ (source jets ts ls es ty ns xs rs ws : List ℕ) where
   abbrev four : ast.Tables
   four = tables ts ls es ty
 
-  pub too-short : shortBy (length ns) (length xs) (length rs) (length ws) ≡ true → (Refused (NotLexed ShortTable) ≡ innerAll source jets old) × (eight ts ls es ty ns xs rs ws ≡ tablesAfter source jets old)
-  unfolding innerAll tablesAfter
+  pub too-short : shortBy (length ns) (length xs) (length rs) (length ws) ≡ true → (Refused (NotLexed ShortTable) ≡ answerOf (readInto source jets old)) × (eight ts ls es ty ns xs rs ws ≡ after (readInto source jets old) old)
+  unfolding readInto
   too-short e = (rw e, rw e)
 
   module _ (room : shortBy (length ns) (length xs) (length rs) (length ws) ≡ false) where
     -- an answer by the lexer's, and the tables by it
-    settled : (a : LexAnswer) (r : InnerAnswer) (new : Tables) → ast.lexAnswer source four ≡ a → r ≡ innerBy source jets (parsedBy source jets a) → new ≡ leftBy source jets old a → (r ≡ innerAll source jets old) × (new ≡ tablesAfter source jets old)
-    unfolding innerAll tablesAfter
-    settled a r new e f g = (f ∙ rw (room, e), g ∙ rw (room, e))
+    settled : (a : LexAnswer) (r : ReadAnswer) (new : Tables) → ast.lexAnswer source four ≡ a → r ≡ answerOf (readingBy source jets a) → new ≡ after (readingBy source jets a) old → (r ≡ answerOf (readInto source jets old)) × (new ≡ after (readInto source jets old) old)
+    settled a r new e f g =
+        let q : readingBy source jets a ≡ readInto source jets old = ap (readingBy source jets) (sym e) ∙ sym (by-lexer source jets ts ls es ty ns xs rs ws room) in
+        (f ∙ ap answerOf q, g ∙ ap (λ (x : Reading). after x old) q)
 
     -- what parsing answered and left
     data Seen : ParseAnswer → ast.Tables → Type 0 where
       short : ast.lexAnswer source four ≡ ShortTable → Seen (NotLexed ShortTable) four
-      refused : {a : ParseAnswer} (l : LexAnswer) → ast.lexAnswer source four ≡ l → nextBy a ≡ Cleared → Refused a ≡ innerBy source jets (parsedBy source jets l) → holding [] [] old ≡ leftBy source jets old l → Seen a (ast.holding [] [] four)
+      refused : {a : ParseAnswer} (l : LexAnswer) → ast.lexAnswer source four ≡ l → nextBy a ≡ Cleared → Refused a ≡ answerOf (readingBy source jets l) → holding nothing old ≡ after (readingBy source jets l) old → Seen a (ast.holding [] [] four)
       parsed : (m : ℕ) (us : List Line) (rest : List Token) → ast.lexAnswer source four ≡ Ended (Tokens m) → parsing source jets ≡ got us rest → Seen (WasParsed (Lines (ast.countsOf (lexing source .tokens) us))) (ast.holding (lexing source .tokens) us four)
 
     seen : (a : ParseAnswer) (new : ast.Tables) → a ≡ ast.parseAll source jets four → new ≡ ast.tablesAfter source jets four → Seen a new
@@ -86,7 +87,7 @@ module _ (source jets ts ls es ty ns xs rs ws : List ℕ) where
       where
         ended : (m : ℕ) → ast.lexAnswer source four ≡ Ended (Tokens m) → (p : Parsed (List Line)) → parsing source jets ≡ p → Seen (WasParsed (endBy (length source) (lexing source .tokens) p)) (ast.holding (tokensIn (lexing source .tokens) p) (linesIn p) four)
         ended m e (got us rest) q = parsed m us rest e q
-        ended m e (stop x rest) q = refused {a = WasParsed (endBy (length source) (lexing source .tokens) (stop x rest))} (Ended (Tokens m)) e refl (rw q) (rw q)
+        ended m e (stop x rest) q = refused {a = WasParsed (endBy (length source) (lexing source .tokens) (stop x rest))} (Ended (Tokens m)) e refl (rw q (sym (ap Refused (fault-answer (placeOf (length source) rest) x)))) (rw q (sym (fault-left (placeOf (length source) rest) x old)))
 
         go : (l : LexAnswer) → ast.lexAnswer source four ≡ l → Seen (parsedBy source jets l) (ast.leftBy source jets four l)
         go ShortTable e = short e
@@ -103,24 +104,24 @@ module _ (source jets ts ls es ty ns xs rs ws : List ℕ) where
       abbrev eight-with : ast.Tables → (names nodes errors work : List ℕ) → Tables
       eight-with t ns' xs' rs' ws' = record { parsed = t; names = ns'; nodes = xs'; errors = rs'; work = ws' }
 
-      pub untouched : x ≡ Untouched → (Refused a ≡ innerAll source jets old) × (eight ts' ls' es' ty' ns xs rs ws ≡ tablesAfter source jets old)
+      pub untouched : x ≡ Untouched → (Refused a ≡ answerOf (readInto source jets old)) × (eight ts' ls' es' ty' ns xs rs ws ≡ after (readInto source jets old) old)
       untouched u = go a (tables ts' ls' es' ty') (seen a (tables ts' ls' es' ty') ea et) (sym ex ∙ u)
         where
-          go : (a : ParseAnswer) (t : ast.Tables) → Seen a t → nextBy a ≡ Untouched → (Refused a ≡ innerAll source jets old) × (eight-with t ns xs rs ws ≡ tablesAfter source jets old)
+          go : (a : ParseAnswer) (t : ast.Tables) → Seen a t → nextBy a ≡ Untouched → (Refused a ≡ answerOf (readInto source jets old)) × (eight-with t ns xs rs ws ≡ after (readInto source jets old) old)
           go a t (short e) q = settled ShortTable (Refused (NotLexed ShortTable)) old e refl refl
           go a t (refused l e c f g) q = absurd (let z : _≡_ {A = ℕ} 0 1 = cc in omega arith)
           go a t (parsed m us rest e p) q = absurd (let z : _≡_ {A = ℕ} 0 1 = cc in omega arith)
 
-      -- no line has no name, no node and no error
-      none-held : holding [] [] old ≡ eight-with (ast.holding [] [] four) (tableOf nameWidth [] ns) (tableOf nodeWidth [] xs) (tableOf errorWidth [] rs) (tableOf workWidth [] ws)
-      unfolding namedRows namedRowsFrom walked final namesTo namesOf nodeRows nodeRowsFrom errorRows errorsFrom
+      -- no records
+      none-held : holding nothing old ≡ eight-with (ast.holding [] [] four) (tableOf nameWidth [] ns) (tableOf nodeWidth [] xs) (tableOf errorWidth [] rs) (tableOf workWidth [] ws)
+      unfolding holding lineRecords linesExprs linesTypes
       none-held = refl
 
       pub cleared : (ns' xs' rs' ws' : List ℕ) → x ≡ Cleared → ns' ≡ tableOf nameWidth [] ns → xs' ≡ tableOf nodeWidth [] xs → rs' ≡ tableOf errorWidth [] rs → ws' ≡ tableOf workWidth [] ws
-          → (Refused a ≡ innerAll source jets old) × (eight ts' ls' es' ty' ns' xs' rs' ws' ≡ tablesAfter source jets old)
+          → (Refused a ≡ answerOf (readInto source jets old)) × (eight ts' ls' es' ty' ns' xs' rs' ws' ≡ after (readInto source jets old) old)
       cleared ns' xs' rs' ws' u en ex' er ew = go a (tables ts' ls' es' ty') (seen a (tables ts' ls' es' ty') ea et) (sym ex ∙ u)
         where
-          go : (a : ParseAnswer) (t : ast.Tables) → Seen a t → nextBy a ≡ Cleared → (Refused a ≡ innerAll source jets old) × (eight-with t ns' xs' rs' ws' ≡ tablesAfter source jets old)
+          go : (a : ParseAnswer) (t : ast.Tables) → Seen a t → nextBy a ≡ Cleared → (Refused a ≡ answerOf (readInto source jets old)) × (eight-with t ns' xs' rs' ws' ≡ after (readInto source jets old) old)
           go a t (short e) q = absurd (let z : _≡_ {A = ℕ} 0 1 = cc in omega arith)
           go a t (refused l e c f g) q = settled l (Refused a) (eight-with (ast.holding [] [] four) ns' xs' rs' ws') e f (rw (en, ex', er, ew) (sym none-held ∙ g))
           go a t (parsed m us rest e p) q = absurd (let z : _≡_ {A = ℕ} 0 1 = cc in omega arith)
@@ -156,18 +157,18 @@ module _ (source jets ts ls es ty ns xs rs ws : List ℕ) where
                           (rw p (parsed-held (checksOf jets) source (lexing source .tokens) us rest p (tokens-lie source m lexed .1) (omega (arith, tiling source m lexed .1, tokens-few source m lexed)) es));
                     }
 
-        pub read : (r : InnerCounts) (ns' xs' rs' ws' : List ℕ) → (HeldLines source ls' es' (n .lines) found → Resolves found n r ns ns' xs xs' rs rs' ws ws')
-            → (Read r ≡ innerAll source jets old) × (eight ts' ls' es' ty' ns' xs' rs' ws' ≡ tablesAfter source jets old)
+        pub read : (r : ReadCounts) (ns' xs' rs' ws' : List ℕ) → (HeldLines source ls' es' (n .lines) found → Resolves found n r ns ns' xs xs' rs rs' ws ws')
+            → (Read r ≡ answerOf (readInto source jets old)) × (eight ts' ls' es' ty' ns' xs' rs' ws' ≡ after (readInto source jets old) old)
         read r ns' xs' rs' ws' f = go a (tables ts' ls' es' ty') (seen a (tables ts' ls' es' ty') ea et) (sym ex ∙ u)
           where
             d : Resolves found n r ns ns' xs xs' rs rs' ws ws'
             d = f held
 
-            go : (a : ParseAnswer) (t : ast.Tables) → Seen a t → nextBy a ≡ Rest n → (Read r ≡ innerAll source jets old) × (eight-with t ns' xs' rs' ws' ≡ tablesAfter source jets old)
+            go : (a : ParseAnswer) (t : ast.Tables) → Seen a t → nextBy a ≡ Rest n → (Read r ≡ answerOf (readInto source jets old)) × (eight-with t ns' xs' rs' ws' ≡ after (readInto source jets old) old)
             go a t (short e) q = absurd (let z : _≡_ {A = ℕ} 0 1 = cc in omega arith)
             go a t (refused l e c g h) q = absurd (let z : _≡_ {A = ℕ} 0 1 = cc in omega arith)
             go a t (parsed m us rest e p) q =
                 let c : n ≡ ast.countsOf (lexing source .tokens) us = cc in
                 settled (Ended (Tokens m)) (Read r) (eight-with (ast.holding (lexing source .tokens) us four) ns' xs' rs' ws') e
-                (rw p (ap Read (d .0 ∙ rw (c, p))))
-                (rw (d .1, d .2, d .3, d .4, p))
+                (rw p (ap Read (d .0 ∙ rw (c, p) (sym (counts-held (lexing source .tokens) us)))))
+                (rw (d .1, d .2, d .3, d .4, p) (sym (tables-held (lexing source .tokens) us old)))

@@ -9,31 +9,19 @@ ghost use Prim.Native.Nat.{ℕ};
 ghost use mathlib.Core.List.{List};
 ghost use Rattle.grammar.specs.Tree.{Line};
 ghost use Rattle.names.specs.Held.{HeldLines};
-ghost use Rattle.reader.specs.Inner.{eight, shortBy, innerAll, tablesAfter, rowOfInner, noCounts, countsOfInner, nextBy, Resolves};
+ghost use Rattle.reader.specs.Reading.{eight, shortBy, readInto, after, answerOf};
+ghost use Rattle.reader.specs.Steps.{nextBy, Resolves};
 use ends::Counts;
 use ends::ParseAnswer;
 use ends::ParseEnd;
+use ends::ReadAnswer;
+use ends::ReadCounts;
 use lex::LexAnswer;
 use records::ErrorRecord;
 use records::NameRecord;
 use records::NodeRecord;
 use records::WorkRecord;
 use records::limits::Limits;
-use records::refusals::Refusal;
-
-// How many records there are of each table; work has none.
-pub struct InnerCounts {
-    pub parsed: Counts,
-    pub names: u32,
-    pub nodes: u32,
-    pub errors: u32,
-}
-
-// The answer for any source, any jet list and any lent tables.
-pub enum InnerAnswer {
-    Read(InnerCounts),
-    Refused(ParseAnswer),
-}
 
 // What parsing leaves to be done: nothing, since no word was changed; to set the other tables to zero; to resolve the lines.
 enum AfterParse {
@@ -90,43 +78,8 @@ fn after_parse(answer: ParseAnswer) -> AfterParse
     }
 }
 
-impl InnerAnswer {
-    // The answer as a row of the table of refusals,
-    pub fn row(self) -> Refusal
-        ensures { λ r. ⌜ r ≡ rowOfInner self ⌝ }
-    {
-        match self {
-            InnerAnswer::Read(_) => Refusal {
-                no: Refusal::NONE,
-                value: 0,
-                place: 0,
-            },
-            InnerAnswer::Refused(answer) => answer.row(),
-        }
-    }
-
-    // and how many records there are.
-    pub fn counts(self) -> InnerCounts
-        ensures { λ r. ⌜ r ≡ countsOfInner self ⌝ }
-    {
-        match self {
-            InnerAnswer::Read(counts) => counts,
-            InnerAnswer::Refused(_) => InnerCounts {
-                parsed: Counts {
-                    tokens: 0,
-                    lines: 0,
-                    exprs: 0,
-                    types: 0,
-                },
-                names: 0,
-                nodes: 0,
-                errors: 0,
-            },
-        }
-    }
-}
-
-// Steps 1 and 2 of the Rust's `parse_inner`, over the tables of lines that were parsed.
+// Steps 1 and 2 of the Rust's `parse_inner`, and the missing and incomplete errors of its step 3, over the tables of lines that were
+// parsed.
 fn resolve_lines(
     source: &[u8],
     lines: &[u32],
@@ -136,23 +89,23 @@ fn resolve_lines(
     nodes: &mut [u32],
     errors: &mut [u32],
     work: &mut [u32],
-) -> InnerCounts
+) -> ReadCounts
     requires { ⌜ (recordLimit * nameWidth ≤ length (now names)) × (recordLimit * nodeWidth ≤ length (now nodes)) × (recordLimit * errorWidth ≤ length (now errors)) × (recordLimit * workWidth ≤ length (now work)) ⌝ }
     ensures { λ r. ⌜ ((ls : List Line) → HeldLines (now (source .entry)) (now (lines .entry)) (now (exprs .entry)) (parsed .lines) ls → Resolves ls parsed r (now (names .entry)) (now (names .exit)) (now (nodes .entry)) (now (nodes .exit)) (now (errors .entry)) (now (errors .exit)) (now (work .entry)) (now (work .exit))) ⌝ }
 {
     let entered = names::enter_names(source, lines, parsed.lines, exprs, names, errors);
     let made = resolve::resolve_names(source, exprs, names, entered.names, nodes, work);
-    InnerCounts {
+    let met = errors::node_errors(nodes, made, errors, entered.errors);
+    ReadCounts {
         parsed,
         names: entered.names,
         nodes: made,
-        errors: entered.errors,
+        errors: met,
     }
 }
 
-// Steps 1 and 2 of the Rust's `parse_inner`, for any bytes, any jet list and any lent tables: refusals 1 to 13 in their order; the
-// errors are those of lines.
-pub fn parse_inner(
+// The reading of a source, for any bytes, any jet list and any lent tables: refusals 1 to 13 in their order, or every record.
+pub fn read(
     source: &[u8],
     jets: &[u8],
     tokens: &mut [u32],
@@ -163,21 +116,21 @@ pub fn parse_inner(
     nodes: &mut [u32],
     errors: &mut [u32],
     work: &mut [u32],
-) -> InnerAnswer
-    ensures answer { λ r. ⌜ r ≡ innerAll (now (source .entry)) (now (jets .entry)) (eight (now (tokens .entry)) (now (lines .entry)) (now (exprs .entry)) (now (types .entry)) (now (names .entry)) (now (nodes .entry)) (now (errors .entry)) (now (work .entry))) ⌝ }
-    ensures tables { λ _. ⌜ eight (now (tokens .exit)) (now (lines .exit)) (now (exprs .exit)) (now (types .exit)) (now (names .exit)) (now (nodes .exit)) (now (errors .exit)) (now (work .exit)) ≡ tablesAfter (now (source .entry)) (now (jets .entry)) (eight (now (tokens .entry)) (now (lines .entry)) (now (exprs .entry)) (now (types .entry)) (now (names .entry)) (now (nodes .entry)) (now (errors .entry)) (now (work .entry))) ⌝ }
+) -> ReadAnswer
+    ensures answer { λ r. ⌜ r ≡ answerOf (readInto (now (source .entry)) (now (jets .entry)) (eight (now (tokens .entry)) (now (lines .entry)) (now (exprs .entry)) (now (types .entry)) (now (names .entry)) (now (nodes .entry)) (now (errors .entry)) (now (work .entry)))) ⌝ }
+    ensures tables { λ _. ⌜ eight (now (tokens .exit)) (now (lines .exit)) (now (exprs .exit)) (now (types .exit)) (now (names .exit)) (now (nodes .exit)) (now (errors .exit)) (now (work .exit)) ≡ after (readInto (now (source .entry)) (now (jets .entry)) (eight (now (tokens .entry)) (now (lines .entry)) (now (exprs .entry)) (now (types .entry)) (now (names .entry)) (now (nodes .entry)) (now (errors .entry)) (now (work .entry)))) (eight (now (tokens .entry)) (now (lines .entry)) (now (exprs .entry)) (now (types .entry)) (now (names .entry)) (now (nodes .entry)) (now (errors .entry)) (now (work .entry))) ⌝ }
 {
     if is_short(names.len(), nodes.len(), errors.len(), work.len()) {
-        return InnerAnswer::Refused(ParseAnswer::NotLexed(LexAnswer::ShortTable));
+        return ReadAnswer::Refused(ParseAnswer::NotLexed(LexAnswer::ShortTable));
     }
     let answer = ast::parse_line_vector(source, jets, tokens, lines, exprs, types);
     match after_parse(answer) {
-        AfterParse::Untouched => InnerAnswer::Refused(answer),
+        AfterParse::Untouched => ReadAnswer::Refused(answer),
         AfterParse::Cleared => {
             clear_resolved(names, nodes, errors, work);
-            InnerAnswer::Refused(answer)
+            ReadAnswer::Refused(answer)
         }
-        AfterParse::Parsed(parsed) => InnerAnswer::Read(resolve_lines(
+        AfterParse::Parsed(parsed) => ReadAnswer::Read(resolve_lines(
             source,
             lines,
             exprs,

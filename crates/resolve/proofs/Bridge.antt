@@ -22,18 +22,19 @@ use Rattle.tables.proofs.Words.{word-none}
 use Rattle.tables.proofs.Laws.{wide-map, table-word}
 use Rattle.lex.specs.Tokens.{Token}
 use Rattle.checks.specs.Jets.{same}
-use Rattle.checks.specs.Literals.{spanText}
+use Rattle.literals.specs.Literals.{spanText}
 use Rattle.grammar.specs.Tree.{Expr, Line}
 use Rattle.grammar.specs.Part as part
 use Rattle.grammar.specs.Part.{Part, partOf, partIf, weight, spanOf}
 use Rattle.grammar.specs.Tree as tree
-use Rattle.grammar.specs.Recorded.{exprRecord, exprRecords, partNo, linePart, exprsOf, linesExprs}
+use Rattle.grammar.specs.Recorded.{exprRecord, exprRecords, partNo, linePart, exprsOf, linesExprs, exprRowsOf}
 use Rattle.grammar.specs.Places.{Each}
 use Rattle.grammar.proofs.Takes.{expr-records}
-use Rattle.ast.specs.Parsing.{exprRowsOf}
-use Rattle.names.specs.Names.{Text, find, firstFrom, Placed, placed, orElse, firstExpression, numberOf, namesOf}
+use Rattle.symbols.specs.Symbols.{Text, find}
+use Rattle.names.specs.Names.{firstFrom, Placed, placed, orElse, firstExpression, numberOf, namesOf}
 use Rattle.names.specs.Uses.{Refers}
-use Rattle.names.specs.Held.{spanAt, InPlace}
+use Rattle.symbols.specs.Texts.{spanAt}
+use Rattle.names.specs.Held.{InPlace}
 use Rattle.walk.specs.Walk as walk
 use Rattle.walk.specs.Walk.{Head, Tree, noexpr, of}
 use Rattle.walk.specs.Trees.{head, numbered, outermost, treeBy, treeIf, treeOf, recordNo}

@@ -5,7 +5,7 @@ use mathlib.Core.List.{List, [], _∷_, map}
 use native.Mathlib.Omega.{arith}
 use lib.ListN.{length, take}
 use Rattle.records.specs.Limits.{recordLimit, nameWidth, nodeWidth, workWidth}
-use Rattle.records.specs.Records.{nameWords}
+use Rattle.records.specs.Records.{nameWords, nodeWords}
 use Rattle.tables.specs.Tables.{tableOf, beyond}
 use Rattle.tables.proofs.Laws.{table-again, table-cleared}
 use Rattle.tables.proofs.Filled.{table-beyond}
@@ -15,7 +15,7 @@ use Rattle.names.specs.Names.{namesOf, nameRecord, nameRows}
 use Rattle.names.specs.Held.{Held}
 use Rattle.walk.specs.Walk.{Node, Status, fresh, finished, State, namesTo, unwalked, final, Tree}
 use Rattle.walk.specs.Trees.{treeOf}
-use Rattle.walk.specs.Nodes.{inDegree, nodeRowsFrom, nodeRows, nodeNo, namedRowsFrom, namedRows, walked, nodesOf}
+use Rattle.walk.specs.Nodes.{inDegree, nodeRecordsFrom, nodeRows, nodeNo, nameRecordsFrom, nameRecords, namedRows, walked, nodesOf}
 use Rattle.walk.proofs.Basics.{not-fresh-done}
 use Rattle.walk.proofs.Fuel.{all-done}
 use Rattle.walk.proofs.Count.{nodes-parts, total as total-of, total-none, total-more, parts-total}
@@ -34,16 +34,16 @@ unfolding statusRows
 rows-fresh ls k [] = refl
 rows-fresh ls k (x ∷ xs) = ap {B = List (List ℕ)} (λ rs. nameWords (nameRecord ls 0 x) ∷ rs) (rows-fresh ls (suc k) xs)
 
-rows-finished : (ls : List Line) (st : ℕ → Status) (k : ℕ) (xs : List Token) → ((m : ℕ) → k ≤ m → m < k + length xs → (i : ℕ) × (st m ≡ finished i)) → statusRows ls st k xs ≡ namedRowsFrom ls st k xs
-unfolding statusRows namedRowsFrom
+rows-finished : (ls : List Line) (st : ℕ → Status) (k : ℕ) (xs : List Token) → ((m : ℕ) → k ≤ m → m < k + length xs → (i : ℕ) × (st m ≡ finished i)) → statusRows ls st k xs ≡ map nameWords (nameRecordsFrom ls st k xs)
+unfolding statusRows nameRecordsFrom
 rows-finished ls st k [] h = refl
 rows-finished ls st k (x ∷ xs) h =
     let d = h k (omega arith) (omega arith) in
     ap₂ {C = List (List ℕ)} (λ i rs. nameWords (nameRecord ls i x) ∷ rs) (ap statusWord (d .1) ∙ sym (ap nodeNo (d .1)))
     (rows-finished ls st (suc k) xs (λ m a b. h m (omega arith) (omega arith)))
 
-rows-none : (k : ℕ) (xs : List Node) → nodeRowsFrom [] k xs ≡ map freshRow xs
-unfolding nodeRowsFrom inDegree
+rows-none : (k : ℕ) (xs : List Node) → map nodeWords (nodeRecordsFrom [] k xs) ≡ map freshRow xs
+unfolding nodeRecordsFrom inDegree
 rows-none k [] = refl
 rows-none k (x ∷ xs) = ap {B = List (List ℕ)} (λ rs. freshRow x ∷ rs) (rows-none (suc k) xs)
 
@@ -114,8 +114,8 @@ resolve-all source es nm nd wk count nd₁ nm' nd₂ wk' nd' wk₂ r ln lw h1 hv
 
     names-are : nm' ≡ tableOf nameWidth (namedRows ls) nm
     names-are =
-        let e : statusRows ls (s .status) 1 ns ≡ namedRowsFrom ls (s .status) 1 ns = rows-finished ls (s .status) 1 ns (λ m a b. all-done F N m (a, omega arith)) in
-        end .0 .names ∙ ap (λ (rs : List (List ℕ)). tableOf nameWidth rs nm) e ∙ unfold namedRows walked in refl
+        let e : statusRows ls (s .status) 1 ns ≡ map nameWords (nameRecordsFrom ls (s .status) 1 ns) = rows-finished ls (s .status) 1 ns (λ m a b. all-done F N m (a, omega arith)) in
+        end .0 .names ∙ ap (λ (rs : List (List ℕ)). tableOf nameWidth rs nm) e ∙ unfold nameRecords walked in refl
 
     nodes-are : nd' ≡ tableOf nodeWidth (nodeRows (nodesOf ls)) nd
     nodes-are =

@@ -13,11 +13,12 @@ use Rattle.records.specs.NodeKind as node
 use Rattle.records.specs.Records.{nodeWords}
 use Rattle.records.specs.declared.NodeRecord.{NodeRecord}
 use Rattle.tables.specs.Tables.{wordAt, written, beyond}
-use Rattle.checks.specs.Literals.{spanText}
+use Rattle.literals.specs.Literals.{spanText}
 use Rattle.cursor.specs.Cursor.{nextNumber}
 use Rattle.grammar.specs.Part.{spanOf}
-use Rattle.names.specs.Names.{Text, firstFrom, numberOf, texts, find, findFrom}
-use Rattle.names.specs.Held.{spanAt, textsFrom}
+use Rattle.symbols.specs.Symbols.{Text, texts, find, findFrom}
+use Rattle.names.specs.Names.{firstFrom, numberOf}
+use Rattle.symbols.specs.Texts.{spanAt, textsFrom}
 use Rattle.names.proofs.Laws.{names-few, find-is, find-first, find-stands, texts-length}
 use Rattle.walk.specs.Walk.{Head, Node, Status, fresh, begun, finished, State, marked, mark, finish, resolve}
 use Rattle.walk.specs.Nodes.{nodeRecord}

@@ -11,14 +11,16 @@ use Rattle.records.specs.declared.Span.{Span}
 use Rattle.tables.specs.Tables.{tableOf, wordAt, written}
 use Rattle.tables.proofs.Laws.{Wide, none, more, table-word, table-replace}
 use Rattle.lex.specs.Tokens.{Token}
-use Rattle.checks.specs.Literals.{spanText}
+use Rattle.literals.specs.Literals.{spanText}
 use Rattle.grammar.specs.Tree.{Line}
 use Rattle.grammar.specs.Part.{spanOf}
 use Rattle.grammar.specs.Places.{Each}
 use Rattle.grammar.proofs.Records.{each-back}
-use Rattle.names.specs.Names.{Text, texts, namesOf, nameRecord, firstFrom, numberOf}
+use Rattle.symbols.specs.Symbols.{Text, texts}
+use Rattle.names.specs.Names.{namesOf, nameRecord, firstFrom, numberOf}
 use Rattle.names.specs.Uses.{In}
-use Rattle.names.specs.Held.{spanAt, nameText, textsFrom, InPlace}
+use Rattle.symbols.specs.Texts.{spanAt, nameText, textsFrom}
+use Rattle.names.specs.Held.{InPlace}
 use Rattle.names.proofs.Laws.{named}
 use Rattle.walk.specs.Walk.{Status, marked}
 use Rattle.walk.proofs.Basics.{marked-same, marked-other}

@@ -3,7 +3,7 @@ use Prim.Native.Nat.{ℕ, zero, suc, _+_, _-_, _*_, _≤_, _<_}
 use mathlib.Core.Bool.{Bool, true, false}
 use mathlib.Core.Path.{_≡_, refl, sym, ap, ap₂, _∙_}
 use mathlib.Core.Logic.{_⊎_, inl, inr, _≢_}
-use mathlib.Core.List.{List, [], _∷_, _++_}
+use mathlib.Core.List.{List, [], _∷_, _++_, map}
 use native.Mathlib.Omega.{arith}
 use native.Mathlib.Numerals.{add-one}
 use lib.ListN.{length, getD, set, take}
@@ -19,7 +19,7 @@ use Rattle.tables.specs.Tables.{tableOf, wordAt, written}
 use Rattle.tables.proofs.Laws.{Wide, none, more, table-word, table-replace}
 use Rattle.grammar.specs.Part.{noSpan}
 use Rattle.walk.specs.Walk.{Node}
-use Rattle.walk.specs.Nodes.{inDegree, oneIf, nodeRecord, nodeRowsFrom, nodeRows}
+use Rattle.walk.specs.Nodes.{inDegree, oneIf, nodeRecord, nodeRecordsFrom, nodeRecords, nodeRows}
 use Rattle.walk.proofs.Basics.{same?}
 use Rattle.resolve.specs.Words.{nodeAt, withParent, bumped, oneMore, begunWord, Counts}
 
@@ -33,8 +33,8 @@ unfoldable pub rowsWith : (degree : ℕ → ℕ) → (i : ℕ) → List Node →
 rowsWith d i [] = []
 rowsWith d i (x ∷ xs) = nodeWords (nodeRecord x (d i)) ∷ rowsWith d (suc i) xs
 
-rows-are : (all : List Node) (i : ℕ) (xs : List Node) → nodeRowsFrom all i xs ≡ rowsWith (inDegree all) i xs
-unfolding nodeRowsFrom rowsWith
+rows-are : (all : List Node) (i : ℕ) (xs : List Node) → map nodeWords (nodeRecordsFrom all i xs) ≡ rowsWith (inDegree all) i xs
+unfolding nodeRecordsFrom rowsWith
 rows-are all i [] = refl
 rows-are all i (x ∷ xs) = ap {B = List (List ℕ)} (λ rs. nodeWords (nodeRecord x (inDegree all i)) ∷ rs) (rows-are all (suc i) xs)
 
@@ -163,7 +163,7 @@ take-all (x ∷ xs) = ap {B = List Node} (λ ys. x ∷ ys) (take-all xs)
 -- after the first n nodes
 unfoldable pub Counting : (nd : List ℕ) (count : ℕ) (nd' : List ℕ) (n : ℕ) → Type 0
 Counting nd c nd' n =
-    (xs : List Node) (old : List ℕ) → c ≡ length xs → c ≤ recordLimit → nd ≡ tableOf nodeWidth (nodeRowsFrom [] 1 xs) old
+    (xs : List Node) (old : List ℕ) → c ≡ length xs → c ≤ recordLimit → nd ≡ tableOf nodeWidth (map nodeWords (nodeRecordsFrom [] 1 xs)) old
     → nd' ≡ tableOf nodeWidth (rowsWith (inDegree (take n xs)) 1 xs) old
 
 pub counting-none : (nd : List ℕ) (c : ℕ) → Counting nd c nd 0
@@ -215,7 +215,7 @@ counting-more nd c nd' n nd₁ nd₂ l r k hl h1 hr h2 v xs old e f h = two
         ∙ ap (λ (rs : List (List ℕ)). tableOf nodeWidth rs old) (with-same (more-for (more-for d (x .left)) (x .right)) (inDegree (take (n + 1) xs)) 1 xs degrees)
 
 pub counting-all : (nd : List ℕ) (c : ℕ) (nd' : List ℕ) (n : ℕ) → n ≡ c → Counting nd c nd' n → Counts nd c nd'
-unfolding Counting Counts nodeRows
+unfolding Counting Counts nodeRecords
 counting-all nd c nd' n k v xs old e f h =
     v xs old e f h ∙ ap (λ (ys : List Node). tableOf nodeWidth (rowsWith (inDegree ys) 1 xs) old) (ap (λ (i : ℕ). take i xs) (k ∙ e) ∙ take-all xs)
     ∙ ap (λ (rs : List (List ℕ)). tableOf nodeWidth rs old) (sym (rows-are xs 1 xs))

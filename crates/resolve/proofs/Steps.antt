@@ -12,9 +12,9 @@ use Rattle.records.specs.Records.{nameWords, nodeWords}
 use Rattle.records.specs.declared.Span.{Span}
 use Rattle.records.specs.declared.NodeRecord.{NodeRecord}
 use Rattle.tables.specs.Tables.{wordAt, written}
-use Rattle.checks.specs.Literals.{spanText}
-use Rattle.names.specs.Names.{findFrom}
-use Rattle.names.specs.Held.{spanAt, textsFrom}
+use Rattle.literals.specs.Literals.{spanText}
+use Rattle.symbols.specs.Symbols.{findFrom}
+use Rattle.symbols.specs.Texts.{spanAt, textsFrom}
 use Rattle.resolve.specs.Words.{usedIn, kindIn, spanIn, placeIn, finishedNode, referenceKind, begunWord, oneMore, nodeAt, withParent, bumped, namesWith}
 
 pub finished-begun : {w : ℕ} → w ≡ begunWord → 0 ≡ finishedNode w

@@ -12,11 +12,13 @@ use Rattle.records.specs.NodeKind as node
 use Rattle.records.specs.Records.{nameWords, nodeWords}
 use Rattle.tables.specs.Tables.{tableOf, wordAt, beyond}
 use Rattle.lex.specs.Tokens.{Token}
-use Rattle.checks.specs.Literals.{spanText}
+use Rattle.literals.specs.Literals.{spanText}
 use Rattle.grammar.specs.Tree.{Line}
 use Rattle.grammar.specs.Part.{spanOf}
-use Rattle.names.specs.Names.{namesOf, nameRecord, find}
-use Rattle.names.specs.Held.{spanAt, Held}
+use Rattle.symbols.specs.Symbols.{find}
+use Rattle.names.specs.Names.{namesOf, nameRecord}
+use Rattle.symbols.specs.Texts.{spanAt}
+use Rattle.names.specs.Held.{Held}
 use Rattle.walk.specs.Walk.{Head, Own, noexpr, of, ownKind, Tree, none, part, refer, Node, Status, fresh, finished, State, visit, namesTo, unwalked}
 use Rattle.walk.specs.Trees.{head, treeOf}
 use Rattle.walk.specs.Nodes.{nodeRecord}

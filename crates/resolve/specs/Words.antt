@@ -2,7 +2,7 @@
 use Prim.Native.Nat.{ℕ, suc, _-_, _≤_}
 use mathlib.Core.Bool.{Bool, true, false, _&&_, not}
 use mathlib.Core.Path.{_≡_}
-use mathlib.Core.List.{List, [], _∷_}
+use mathlib.Core.List.{List, [], _∷_, map}
 use lib.ListN.{length}
 use lib.Dec.{eqb}
 use Rattle.records.specs.Base.{if_then_else_, within}
@@ -12,12 +12,12 @@ use Rattle.records.specs.Records.{nameWords, nodeWords}
 use Rattle.records.specs.declared.Span.{Span}
 use Rattle.records.specs.declared.NodeRecord.{NodeRecord}
 use Rattle.tables.specs.Tables.{tableOf, wordAt, written}
-use Rattle.checks.specs.Literals.{spanText}
+use Rattle.literals.specs.Literals.{spanText}
 use Rattle.cursor.specs.Cursor.{nextNumber}
-use Rattle.names.specs.Names.{findFrom}
-use Rattle.names.specs.Held.{spanAt, textsFrom}
+use Rattle.symbols.specs.Symbols.{findFrom}
+use Rattle.symbols.specs.Texts.{spanAt, textsFrom}
 use Rattle.walk.specs.Walk.{Node, Status, fresh, begun, finished}
-use Rattle.walk.specs.Nodes.{nodeRowsFrom, nodeRows}
+use Rattle.walk.specs.Nodes.{nodeRecordsFrom, nodeRows}
 use Rattle.resolve.specs.declared.StackItem.{StackItem}
 use Rattle.resolve.specs.declared.Walker.{Walker}
 
@@ -168,5 +168,5 @@ bumped nd c i = if within 1 c i then written nodeWidth nd i (nodeWords (withPare
 -- the rows of nodes get their in-degrees
 unfoldable pub Counts : (nodes : List ℕ) → (count : ℕ) → (nodes' : List ℕ) → Type 0
 Counts nd c nd' =
-    (xs : List Node) (old : List ℕ) → c ≡ length xs → c ≤ recordLimit → nd ≡ tableOf nodeWidth (nodeRowsFrom [] 1 xs) old
+    (xs : List Node) (old : List ℕ) → c ≡ length xs → c ≤ recordLimit → nd ≡ tableOf nodeWidth (map nodeWords (nodeRecordsFrom [] 1 xs)) old
     → nd' ≡ tableOf nodeWidth (nodeRows xs) old

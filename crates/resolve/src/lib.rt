@@ -8,7 +8,7 @@ ghost use Rattle.records.specs.Limits.{recordLimit, nameWidth, nodeWidth, workW
 ghost use Rattle.records.specs.NodeKind as node;
 ghost use Rattle.tables.specs.Tables.{wordAt, written};
 ghost use Rattle.grammar.specs.Tree.{Line};
-ghost use Rattle.names.specs.Held.{spanAt};
+ghost use Rattle.symbols.specs.Texts.{spanAt};
 ghost use Rattle.resolve.specs.Words.{itemWords, itemAt, leftItem, downWalker, upWalker, leftWalker, doneWalker, usedIn, kindIn, spanIn, placeIn, nodesWith, finishedNode, referenceKind, freshName, namesWith, begunWord, oneMore, nodeAt, withParent, bumped, Counts};
 ghost use Rattle.resolve.specs.Turns.{Turns, Runs, Visits, VisitsTo, isRunning};
 ghost use Rattle.resolve.specs.Resolved.{HeldNames, Resolved};
@@ -124,7 +124,7 @@ fn used_name(source: &[u8], exprs: &[u32], names: &[u32], count: u32, expr: Expr
     ensures { λ r. ⌜ r .0 ≡ usedIn (now (source .entry)) (now (exprs .entry)) (now (names .entry)) count (expr .0) ⌝ }
 {
     let text = cursor::span_text(source, expr_span(exprs, expr));
-    names::find_name(source, names, count, text)
+    symbols::find_name(source, names, count, text)
 }
 
 // The kind of an expression's node; a name that has no expression has an incomplete node.
@@ -143,7 +143,7 @@ fn node_span(exprs: &[u32], names: &[u32], expr: ExprNo, name: NameNo) -> Span
     ensures { λ r. ⌜ r ≡ spanIn (now (exprs .entry)) (now (names .entry)) (expr .0) (name .0) ⌝ }
 {
     if expr.0 == 0 {
-        return names::name_span(names, name);
+        return symbols::name_span(names, name);
     }
     expr_span(exprs, expr)
 }
@@ -195,7 +195,7 @@ fn set_node(names: &mut [u32], name: NameNo, node: NodeNo)
     ensures { λ _. ⌜ now (names .exit) ≡ namesWith (now (names .entry)) (name .0) (node .0) ⌝ }
 {
     let n = name.0;
-    let span = names::name_span(names, name);
+    let span = symbols::name_span(names, name);
     let expr = tables::word(names, NameRecord::WORDS, n, NameRecord::EXPR);
     let record = NameRecord {
         span,

@@ -6,11 +6,11 @@ use native.Mathlib.Omega.{arith}
 use Rattle.records.specs.TokenKind as token
 use Rattle.records.specs.declared.TokenRecord.{TokenRecord}
 use Rattle.lex.specs.Tokens.{Token, recordOf}
-use Rattle.lex.specs.Code.{NotIn}
+use Rattle.matches.specs.Code.{NotIn}
 use Rattle.checks.specs.declared.Fault.the-variants.{ParseFailed}
 use Rattle.checks.specs.declared.PowerVerdict.{PowerVerdict}
 use Rattle.checks.specs.declared.PowerVerdict.the-variants.{Power, BadPower}
-use Rattle.checks.specs.Literals.{spanText}
+use Rattle.literals.specs.Literals.{spanText}
 use Rattle.checks.specs.Checks.{powerVerdict, checksOf}
 use Rattle.cursor.specs.declared.Cursor.{Cursor}
 use Rattle.cursor.specs.Tokens.{tokenOf}

@@ -8,7 +8,7 @@ ghost use Rattle.records.specs.Records.{typeWords};
 ghost use Rattle.lex.specs.Tokens.{Token, recordOf};
 ghost use Rattle.tables.specs.Tables.{written};
 ghost use Rattle.checks.specs.Checks.{powerVerdict, checksOf};
-ghost use Rattle.checks.specs.Literals.{spanText};
+ghost use Rattle.literals.specs.Literals.{spanText};
 ghost use Rattle.cursor.specs.Tokens.{tokenOf, tokensLeft};
 ghost use Rattle.cursor.specs.Cursor.{nextNumber, Ready};
 ghost use Rattle.grammar.specs.Grammar.{type, atom};

@@ -38,6 +38,17 @@ pub(crate) fn bad() -> Tally
     }
 }
 
+// The same, and bad if the sheet differs.
+pub(crate) fn judge(one: Tally, sheet: bool) -> Tally
+    requires { ⌜ (one .texts ≤ 1) × (one .places < 2 ^ 32) × (one .bad ≤ 1) ⌝ }
+    ensures { λ r. ⌜ (r .texts ≤ 1) × (r .places < 2 ^ 32) × (r .bad ≤ 1) ⌝ }
+{
+    let texts = one.texts;
+    let places = one.places;
+    let bad = if sheet { one.bad } else { 1 };
+    Tally { texts, places, bad }
+}
+
 fn one_if(holds: bool) -> u64
     ensures { λ r. ⌜ r ≤ 1 ⌝ }
 {

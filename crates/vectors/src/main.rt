@@ -1,5 +1,5 @@
-// Replays the oracle's answers that are stored in data/, as far as the crates give them by now. A case that does not open,
-// is not whole or differs is bad, and its number is printed.
+// Replays the oracle's answers that are stored in data/: tokens and places, and the whole sheet. A case that does not open, is not
+// whole or differs is bad, and its number is printed.
 //
 // The list was made in host/ by `cargo run --release --bin vectors write ../crates/vectors/data`; its generated files come
 // from seed 1. `vectors check` compares it with the list made anew, and `vectors list` says what each case is about.
@@ -8,10 +8,11 @@ use compare::Tally;
 use libc::STDOUT_FILENO;
 
 mod compare;
+mod sheets;
 mod stored;
 
 // How many cases are stored.
-const CASES: u16 = 449;
+const CASES: u16 = 455;
 
 // Replays the case of this number. Each of its files is shorter than a buffer, so it is read to its end.
 fn replay(number: u16) -> Tally
@@ -27,7 +28,8 @@ fn replay(number: u16) -> Tally
     }
     let n = s.len;
     let m = t.len;
-    compare::compare(&source[..n], &bytes[..m])
+    let one = compare::compare(&source[..n], &bytes[..m]);
+    compare::judge(one, sheets::replay(&source[..n], number))
 }
 
 // Says the number of a case that is bad.
@@ -70,5 +72,6 @@ fn main() {
     count(CASES as u64, b": ");
     count(all.texts, b" texts, ");
     count(all.places, b" places, ");
+    count(CASES as u64, b" sheets, ");
     count(all.bad, b" bad\n");
 }

@@ -1,16 +1,19 @@
--- How many nodes there are: as many as parts; and how many parts there are.
+-- What the nodes weigh: what the trees of the names do, since each part becomes one node. With the weight 1 of each, there are as
+-- many nodes as parts.
 use Prim.Native.Nat.{ℕ, zero, suc, _+_, _≤_}
 use mathlib.Core.Path.{_≡_, refl, sym, ap, _∙_}
 use mathlib.Core.Bool.{Bool, true, false}
 use mathlib.Core.Logic.{_⊎_, inl, inr, _≢_}
+use mathlib.Core.List.{List, [], _∷_, _++_, map}
 use native.Mathlib.Omega.{arith}
 use lib.ListN.{length}
-use Rattle.walk.specs.Walk.{ownKind, Tree, none, part, refer, Node, Status, fresh, begun, finished, State, Walked, marked, mark, resolve, walk}
+use Rattle.walk.specs.Walk.{Head, Own, ownKind, Tree, none, part, refer, Node, Status, fresh, begun, finished, State, Walked, marked, mark, resolve, walk}
 use Rattle.walk.specs.Walk.{ready, whole, wholeIf, visitIn, visit, namesTo, unwalked, final}
 use Rattle.walk.proofs.Basics.{same?, marked-same, marked-other, not-fresh-done, not-fresh-begun, length-snoc, Grows, walk-begun, ready-true, visit-in-grow}
 use Rattle.walk.proofs.Fuel.{sum-begin, sum-same, all-done}
 use Rattle.walk.specs.Walk.{Legal}
-use Rattle.walk.specs.Machine.{size, share, freshSum, freshSize, Absent}
+use Rattle.walk.specs.Stands.{sum}
+use Rattle.walk.specs.Machine.{nodeOf, size, share, freshSum, freshSize, Absent}
 
 -- ---- every part of a tree becomes one node, and a name's tree is walked at most once
 
@@ -33,71 +36,117 @@ sum-none f (suc n) st h = omega (arith, sum-none f n st (λ m l. h m (l .0, omeg
     go begun e = refl
     go (finished i) e = refl
 
-module _ (F : ℕ → Tree) (N : ℕ) where
-  -- the nodes, and the parts of the names not yet begun, are together as many as before
+-- ---- what nodes weigh
+
+-- each node weighs what the part does that it is made of, whatever its children are and whether its name is finished
+pub record Weighs (g : Node → ℕ) (t : Tree → ℕ) : Type 0 where
+  pub absent : t none ≡ 0
+  pub own : (k : Own) (h : Head) (l r : Tree) (a b : ℕ) → t (part k h l r) ≡ g (nodeOf k h a b) + (t l + t r)
+  pub used : (h : Head) (n : ℕ) (v : Status) → t (refer h n) ≡ g (resolve h v)
+
+pub sum-append : {A : Type 0} (f : A → ℕ) (xs ys : List A) → sum (map f (xs ++ ys)) ≡ sum (map f xs) + sum (map f ys)
+unfolding sum
+sum-append f [] ys = omega arith
+sum-append f (x ∷ xs) ys = omega (arith, sum-append f xs ys)
+
+sum-snoc : (g : Node → ℕ) (xs : List Node) (x : Node) → sum (map g (xs ++ (x ∷ []))) ≡ sum (map g xs) + g x
+unfolding sum
+sum-snoc g xs x = omega (arith, sum-append g xs (x ∷ []))
+
+-- f summed over the numbers 1 to N
+pub total : (ℕ → ℕ) → ℕ → ℕ
+total f N = freshSum f N (λ _. fresh)
+
+module _ (F : ℕ → Tree) (N : ℕ) (g : Node → ℕ) (t : Tree → ℕ) (w : Weighs g t) where
+  -- what the nodes weigh, and the trees of the names not yet begun
+  abbrev weighed : State → ℕ
+  weighed s = sum (map g (s .nodes)) + freshSum (λ n. t (F n)) N (s .status)
+
+  -- they are together as heavy as before
   record Even (v : ℕ → State → State) : Type 0 where
     grows : Grows N v
-    even : (n : ℕ) (s : State) → length (v n s .nodes) + freshSize F N (v n s) ≡ length (s .nodes) + freshSize F N s
+    even : (n : ℕ) (s : State) → weighed (v n s) ≡ weighed s
 
-  walk-even : (v : ℕ → State → State) → Even v → (t : Tree) (s : State)
-      → length (walk v t s .state .nodes) + freshSize F N (walk v t s .state) ≡ length (s .nodes) + size t + freshSize F N s
-  unfolding walk size
-  walk-even v p none s = omega arith
+  walk-even : (v : ℕ → State → State) → Even v → (u : Tree) (s : State) → weighed (walk v u s .state) ≡ weighed s + t u
+  unfolding walk
+  walk-even v p none s = omega (arith, w .absent)
   walk-even v p (part k h l r) s =
       let s1 : State = walk v r s .state in
       let s2 : State = walk v l s1 .state in
-      let x : Node = record { kind = ownKind k; head = h; left = walk v l s1 .number; right = walk v r s .number } in
-      omega (arith, walk-even v p r s, walk-even v p l s1, length-snoc (s2 .nodes) x)
-  walk-even v p (refer h n) s = omega (arith, p .even n s, length-snoc (v n s .nodes) (resolve h (v n s .status n)))
+      let a : ℕ = walk v l s1 .number in
+      let b : ℕ = walk v r s .number in
+      omega (arith, walk-even v p r s, walk-even v p l s1, sum-snoc g (s2 .nodes) (nodeOf k h a b), w .own k h l r a b)
+  walk-even v p (refer h n) s =
+      let x : Node = resolve h (v n s .status n) in
+      omega (arith, p .even n s, sum-snoc g (v n s .nodes) x, w .used h n (v n s .status n))
 
   visit-even : (k : ℕ) → Even (visitIn F N k)
   unfolding visitIn wholeIf whole
   visit-even zero = record { grows = visit-in-grow F N zero; even = λ n s. refl }
   visit-even (suc k) = record { grows = visit-in-grow F N (suc k); even = λ n s. go n s (ready F N n s) refl (visit-even k) }
     where
-      go : (n : ℕ) (s : State) (b : Bool) → ready F N n s ≡ b → Even (visitIn F N k)
-          → length (wholeIf F N b (visitIn F N k) n s .nodes) + freshSize F N (wholeIf F N b (visitIn F N k) n s) ≡ length (s .nodes) + freshSize F N s
+      go : (n : ℕ) (s : State) (b : Bool) → ready F N n s ≡ b → Even (visitIn F N k) → weighed (wholeIf F N b (visitIn F N k) n s) ≡ weighed s
       go n s true e p =
           let d = ready-true F N n s e in
-          let w : Walked = walk (visitIn F N k) (F n) (mark n begun s) in
+          let y : Walked = walk (visitIn F N k) (F n) (mark n begun s) in
           omega (
             arith,
             walk-even (visitIn F N k) p (F n) (mark n begun s),
-            sum-begin (λ m. size (F m)) N n (s .status) (d .0 .0) (d .0 .1) (d .1),
-            sum-finished (λ m. size (F m)) N n (w .number) (w .state .status) (walk-begun N (visitIn F N k) (p .grows) (F n) n s),
+            sum-begin (λ m. t (F m)) N n (s .status) (d .0 .0) (d .0 .1) (d .1),
+            sum-finished (λ m. t (F m)) N n (y .number) (y .state .status) (walk-begun N (visitIn F N k) (p .grows) (F n) n s),
           )
       go n s false e p = refl
-
-  names-even : (n : ℕ) (s : State) → length (namesTo F N n s .nodes) + freshSize F N (namesTo F N n s) ≡ length (s .nodes) + freshSize F N s
-  unfolding namesTo visit
-  names-even zero s = refl
-  names-even (suc n) s = visit-even N .even (suc n) (namesTo F N n s) ∙ names-even n s
-
-  -- the parts of all the names' trees
-  pub parts : ℕ
-  parts = freshSum (λ n. size (F n)) N (λ _. fresh)
-
-  -- AS MANY NODES AS PARTS
-  pub nodes-parts : length (final F N .nodes) ≡ parts
-  unfolding final parts
-  nodes-parts =
-      let z : freshSize F N (final F N) ≡ 0 = sum-none (λ n. size (F n)) N (final F N .status) (λ m l e. let d = all-done F N m l in not-fresh-done (d .0) e (d .1)) in
-      omega (arith, names-even N (unwalked F N), z)
-
-  pub nodes-le-parts : length (final F N .nodes) ≤ parts
-  nodes-le-parts = omega (arith, nodes-parts)
 
   even-visit : Even (visit F N)
   unfolding visit
   even-visit = record { grows = visit-in-grow F N N; even = visit-even N .even }
 
+  names-even : (n : ℕ) (s : State) → weighed (namesTo F N n s) ≡ weighed s
+  unfolding namesTo
+  names-even zero s = refl
+  names-even (suc n) s = even-visit .even (suc n) (namesTo F N n s) ∙ names-even n s
+
+  -- THE NODES WEIGH WHAT THE TREES OF THE NAMES DO
+  pub nodes-weigh : sum (map g (final F N .nodes)) ≡ total (λ n. t (F n)) N
+  unfolding final total sum
+  nodes-weigh =
+      let z : freshSum (λ n. t (F n)) N (final F N .status) ≡ 0 = sum-none (λ n. t (F n)) N (final F N .status) (λ m l e. let d = all-done F N m l in not-fresh-done (d .0) e (d .1)) in
+      omega (arith, names-even N (unwalked F N), z)
+
+-- ---- how many nodes there are: each weighs 1
+
+pub one-each : Weighs (λ _. 1) size
+unfolding size
+one-each = record { absent = refl; own = λ k h l r a b. omega arith; used = λ h n v. refl }
+
+pub sum-one : {A : Type 0} (xs : List A) → sum (map (λ (x : A). 1) xs) ≡ length xs
+unfolding sum
+sum-one [] = refl
+sum-one (x ∷ xs) = omega (arith, sum-one xs)
+
+module _ (F : ℕ → Tree) (N : ℕ) where
+  -- the parts of all the names' trees
+  pub parts : ℕ
+  parts = total (λ n. size (F n)) N
+
+  -- AS MANY NODES AS PARTS
+  pub nodes-parts : length (final F N .nodes) ≡ parts
+  unfolding parts
+  nodes-parts = sym (sum-one (final F N .nodes)) ∙ nodes-weigh F N (λ _. 1) size one-each
+
   pub visit-room : (n : ℕ) (s : State) → length (visit F N n s .nodes) + freshSize F N (visit F N n s) ≤ length (s .nodes) + freshSize F N s
-  visit-room n s = omega (arith, even-visit .even n s)
+  visit-room n s = omega (arith, even-visit F N (λ _. 1) size one-each .even n s, sum-one (s .nodes), sum-one (visit F N n s .nodes))
 
   -- the walk of a name's tree, in the room that its parts were given
   pub walk-room : (t : Tree) (s : State)
       → length (walk (visit F N) t s .state .nodes) + freshSize F N (walk (visit F N) t s .state) ≤ length (s .nodes) + size t + freshSize F N s
-  walk-room t s = omega (arith, walk-even (visit F N) even-visit t s)
+  walk-room t s =
+      omega (
+        arith,
+        walk-even F N (λ _. 1) size one-each (visit F N) (even-visit F N (λ _. 1) size one-each) t s,
+        sum-one (s .nodes),
+        sum-one (walk (visit F N) t s .state .nodes),
+      )
 
   -- what is walked, if it is not absent, is the last node
   pub walk-number : (v : ℕ → State → State) (t : Tree) (s : State) → (Absent F N t → ⊥) → (1 ≤ walk v t s .number) × (walk v t s .number ≤ length (walk v t s .state .nodes))
@@ -109,13 +158,10 @@ module _ (F : ℕ → Tree) (N : ℕ) where
       (omega arith, omega (arith, length-snoc (s2 .nodes) (record { kind = ownKind k; head = h; left = walk v l s1 .number; right = walk v r s .number })))
   walk-number v (refer h n) s a = (omega arith, omega (arith, length-snoc (v n s .nodes) (resolve h (v n s .status n))))
 
--- ---- how the number of parts grows while the names are gathered: what bounds the nodes and the stack
-
-pub total : (ℕ → ℕ) → ℕ → ℕ
-total f N = freshSum f N (λ _. fresh)
+-- ---- sums over the names
 
 pub parts-total : (F : ℕ → Tree) (N : ℕ) → parts F N ≡ total (λ n. size (F n)) N
-unfolding parts total
+unfolding parts
 parts-total F N = refl
 
 pub total-none : (f : ℕ → ℕ) → total f 0 ≡ 0
@@ -126,20 +172,3 @@ total-none f = refl
 pub total-more : (f : ℕ → ℕ) (N : ℕ) → total f (suc N) ≡ total f N + f (suc N)
 unfolding total freshSum
 total-more f N = refl
-
-pub total-same : (f g : ℕ → ℕ) (N : ℕ) → ((m : ℕ) → 1 ≤ m → m ≤ N → g m ≡ f m) → total g N ≡ total f N
-unfolding total freshSum
-total-same f g zero h = refl
-total-same f g (suc N) h = omega (arith, total-same f g N (λ m a b. h m a (omega arith)), h (suc N) (omega arith) (omega arith))
-
--- a name gets its first expression: only its own tree changes
-pub total-change : (f g : ℕ → ℕ) (N n : ℕ) → 1 ≤ n → n ≤ N → ((m : ℕ) → m ≢ n → g m ≡ f m) → total g N + f n ≡ total f N + g n
-unfolding total freshSum
-total-change f g zero n a b h = absurd (omega arith)
-total-change f g (suc N) n a b h = go (same? n (suc N)) (λ q. total-change f g N n a q h)
-  where
-    go : (n ≡ suc N) ⊎ (n ≢ suc N) → (n ≤ N → total g N + f n ≡ total f N + g n) → total g N + g (suc N) + f n ≡ total f N + f (suc N) + g n
-    go (inl p) ih =
-        let s : total g N ≡ total f N = total-same f g N (λ m x y. h m (omega arith)) in
-        omega (arith, s, ap f p, ap g p)
-    go (inr d) ih = omega (arith, ih (omega arith), h (suc N) (omega arith))

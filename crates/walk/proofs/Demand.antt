@@ -11,7 +11,8 @@ use Rattle.records.specs.NodeKind as node
 use Rattle.lex.specs.Tokens.{Token}
 use Rattle.grammar.specs.Tree.{Line}
 use Rattle.grammar.proofs.Records.{each-wide}
-use Rattle.names.specs.Names.{Text, texts, find, namesOf}
+use Rattle.symbols.specs.Symbols.{Text, texts, find}
+use Rattle.names.specs.Names.{namesOf}
 use Rattle.names.specs.Uses.{HasLine, HasReference, Uses, one, more, Loop, Sound}
 use Rattle.names.proofs.Laws.{in-names, names-in}
 use Rattle.walk.specs.Walk.{Head, Own, noexpr, of, ownKind, Tree, refer, Node, final}

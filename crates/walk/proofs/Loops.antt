@@ -6,7 +6,7 @@ use mathlib.Core.List.{List, [], _∷_, _++_, append-assoc, append-nil}
 use native.Mathlib.Omega.{arith}
 use lib.ListN.{length, length-append}
 use Rattle.grammar.specs.Tree.{Line}
-use Rattle.names.specs.Names.{Text}
+use Rattle.symbols.specs.Symbols.{Text}
 use Rattle.names.specs.Uses.{In, HasLine, Uses, Leads, one, more, Loop, Sound}
 use Rattle.names.proofs.Lists.{Split, split-at, in-left}
 

@@ -11,7 +11,8 @@ use Rattle.lex.specs.Tokens.{Token}
 use Rattle.grammar.specs.Tree.{Expr, Line}
 use Rattle.grammar.specs.Part as part
 use Rattle.grammar.specs.Part.{Part, partOf, partIf, spanOf}
-use Rattle.names.specs.Names.{Text, texts, find, namesOf, firstExpression}
+use Rattle.symbols.specs.Symbols.{Text, texts, find}
+use Rattle.names.specs.Names.{namesOf, firstExpression}
 use Rattle.names.specs.Uses.{In, Refers, HasLine, HasReference}
 use Rattle.names.proofs.Laws.{names-in, texts-length, text-in, find-is, find-line, find-stands}
 use Rattle.walk.specs.Walk as walk

@@ -8,7 +8,7 @@ use Rattle.lex.specs.Tokens.{Token}
 use Rattle.grammar.specs.Tree.{Line}
 use Rattle.grammar.specs.Part.{spanOf}
 use Rattle.grammar.specs.Places.{Each, numbered}
-use Rattle.names.specs.Names.{Text}
+use Rattle.symbols.specs.Symbols.{Text}
 use Rattle.names.specs.Uses.{HasLine, HasReference, Loop}
 use Rattle.walk.specs.Walk.{Node}
 use Rattle.walk.specs.Nodes.{nodesOf}

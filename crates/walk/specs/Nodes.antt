@@ -47,13 +47,16 @@ nodeRecord x d =
       «in_degree» = d;
     }
 
--- the rows of these nodes, of which the first is number i, each with its in-degree among all
-unfoldable pub nodeRowsFrom : (all : List Node) → (i : ℕ) → List Node → List (List ℕ)
-nodeRowsFrom all i [] = []
-nodeRowsFrom all i (x ∷ xs) = nodeWords (nodeRecord x (inDegree all i)) ∷ nodeRowsFrom all (suc i) xs
+-- the records of these nodes, of which the first is number i, each with its in-degree among all
+unfoldable pub nodeRecordsFrom : (all : List Node) → (i : ℕ) → List Node → List NodeRecord
+nodeRecordsFrom all i [] = []
+nodeRecordsFrom all i (x ∷ xs) = nodeRecord x (inDegree all i) ∷ nodeRecordsFrom all (suc i) xs
 
-unfoldable pub nodeRows : List Node → List (List ℕ)
-nodeRows xs = nodeRowsFrom xs 1 xs
+unfoldable pub nodeRecords : List Node → List NodeRecord
+nodeRecords xs = nodeRecordsFrom xs 1 xs
+
+abbrev pub nodeRows : List Node → List (List ℕ)
+nodeRows xs = map nodeWords (nodeRecords xs)
 
 -- ---- names with their nodes
 
@@ -63,11 +66,14 @@ nodeNo fresh = 0
 nodeNo begun = 0
 nodeNo (finished i) = i
 
--- the rows of these names, of which the first is number n
-unfoldable pub namedRowsFrom : List Line → (status : ℕ → Status) → (n : ℕ) → List Token → List (List ℕ)
-namedRowsFrom ls st n [] = []
-namedRowsFrom ls st n (x ∷ xs) = nameWords (nameRecord ls (nodeNo (st n)) x) ∷ namedRowsFrom ls st (suc n) xs
+-- the records of these names, of which the first is number n
+unfoldable pub nameRecordsFrom : List Line → (status : ℕ → Status) → (n : ℕ) → List Token → List NameRecord
+nameRecordsFrom ls st n [] = []
+nameRecordsFrom ls st n (x ∷ xs) = nameRecord ls (nodeNo (st n)) x ∷ nameRecordsFrom ls st (suc n) xs
 
--- the rows of the names after the walk
-unfoldable pub namedRows : List Line → List (List ℕ)
-namedRows ls = namedRowsFrom ls (walked ls .status) 1 (namesOf ls)
+-- the records of the names after the walk
+unfoldable pub nameRecords : List Line → List NameRecord
+nameRecords ls = nameRecordsFrom ls (walked ls .status) 1 (namesOf ls)
+
+abbrev pub namedRows : List Line → List (List ℕ)
+namedRows ls = map nameWords (nameRecords ls)

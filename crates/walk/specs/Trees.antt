@@ -8,7 +8,8 @@ use Rattle.lex.specs.Tokens.{Token}
 use Rattle.grammar.specs.Tree.{Expr, Line}
 use Rattle.grammar.specs.Part as part
 use Rattle.grammar.specs.Part.{Part, partOf, spanOf}
-use Rattle.names.specs.Names.{find, firstExpression}
+use Rattle.symbols.specs.Symbols.{find}
+use Rattle.names.specs.Names.{firstExpression}
 use Rattle.walk.specs.Walk as walk
 use Rattle.walk.specs.Walk.{Head, Tree, noexpr, of}
 

@@ -6,8 +6,7 @@ use zaghdurem_host::generate::Shape;
 use zaghdurem_host::run::Counted;
 use zaghdurem_host::scale::Scale;
 use zaghdurem_host::tally::Tally;
-use zaghdurem_host::{lexer, parser, tables, text};
-use zaghdurem_host::{library, resolver};
+use zaghdurem_host::{access, lexer, parser, reader, tables, text, wrapped};
 
 const USAGE: &str = "usage: compare [quick] [--seed N] [--count N]";
 
@@ -50,8 +49,16 @@ fn compare_all(scale: &Scale) -> (Tally, Tally, Vec<String>) {
     total.add(compare_lexers(scale));
     let (parsers, mut unmet) = compare_parsers(scale);
     total.add(parsers);
-    let (resolvers, more_unmet) = compare_resolvers(scale);
-    total.add(resolvers);
+    for (name, compare) in access::PARTS {
+        let mut tally = Tally::default();
+        compare(scale, &mut tally);
+        total.add(report(name, tally));
+    }
+    let mut wrapper = Tally::default();
+    wrapped::compare(scale, &mut wrapper);
+    total.add(report("wrapper, generated files", wrapper));
+    let (readers, more_unmet) = compare_readers(scale);
+    total.add(readers);
     unmet.extend(more_unmet);
     (total, reference, unmet)
 }
@@ -115,32 +122,37 @@ fn compare_parsers(scale: &Scale) -> (Tally, Vec<String>) {
     (total.tally, unmet)
 }
 
-/// The library's tally about names, nodes and the types of names, and what was not met. A comparison is one file with all
-/// its tables, or the types of one name.
-fn compare_resolvers(scale: &Scale) -> (Tally, Vec<String>) {
+/// The library's tally about whole readings, and what was not met.
+fn compare_readers(scale: &Scale) -> (Tally, Vec<String>) {
     let start = Instant::now();
-    let callee: resolver::Callee = &library::parse_inner_row;
-    let mut total = resolver::Comparison::new(callee);
-    for part in resolver::run(callee, scale) {
-        report(part.name, part.comparison.tally.clone());
-        if part.comparison.types.disagreements > 0 {
-            let name = format!("{}: types of names", part.name);
-            report(&name, part.comparison.types.clone());
-        }
+    let mut total = reader::Comparison::new(&reader::Library);
+    for part in reader::run(&reader::Library, scale) {
+        report(part.name, part.comparison.tallies.total());
         print_files(&part.comparison.met.made);
         println!("  {}", part.comparison.met);
         total.add(part.comparison);
     }
-    let files = total.met.files;
-    println!("resolver, all parts: {files} files, {}", total.tally);
-    println!("types of names, all parts: {}", total.types);
+    println!("reader, all parts: {} files", total.met.files);
+    for (what, tally) in total.tallies.all() {
+        println!("  {what}: {tally}");
+    }
     println!("  time: {:.1} s", start.elapsed().as_secs_f64());
     println!("  {}", total.met);
     println!("  nodes by kind: {}", total.met.node_kinds());
-    let unmet = total.met.unmet().into_iter();
-    let unmet = unmet.map(|what| format!("resolver: {what}")).collect();
-    total.tally.add(total.types);
-    (total.tally, unmet)
+    print_departures(&total.departures);
+    let unmet = [total.met.unmet(), total.departures.unmet()].concat();
+    let unmet = unmet.iter().map(|what| format!("reader: {what}"));
+    (total.tallies.total(), unmet.collect())
+}
+
+/// Prints in how many files each difference from the Rust showed.
+fn print_departures(departures: &reader::Departures) {
+    println!("differences from the Rust, as docs/DIFFERENCES.md lists them, and how many files show each:");
+    for (what, files) in departures.rows() {
+        println!("  {files} {what}");
+    }
+    let same = departures.same_roots;
+    println!("  {same} files without error and literal CMR: all roots are in the Rust's map, and no other");
 }
 
 /// Prints a part's line, and its smallest disagreement if there is one.

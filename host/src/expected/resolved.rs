@@ -103,27 +103,26 @@ mod tests {
     use crate::random::Random;
 
     #[test]
-    fn the_resolver_gives_all_but_the_errors_of_nodes() {
+    fn errors_of_nodes_stand_behind_those_of_lines() {
         let mut random = Random::new(29);
-        let mut cut = 0;
+        let mut both = 0;
         oracle::with_stack(|| {
             for _ in 0..600 {
                 let file = generate(&mut random);
-                let jets = Jets::new(&file.jets);
-                let (resolved, types) = resolved_with(&file.source, &jets);
-                let mut whole = expected_with(&file.source, &jets);
-                let text = file.source.escape_ascii();
-                assert_eq!(types.len(), whole.counts[NAMES] as usize, "{text}");
-                let of_lines = |row: &&[u32]| row[0] <= 2;
-                let rows = whole.tables[ERRORS].chunks(WIDTHS[ERRORS]);
-                let errors: Vec<u32> = rows.filter(of_lines).flatten().copied().collect();
-                cut += whole.tables[ERRORS].len() - errors.len();
-                whole.counts[ERRORS] = word(errors.len() / WIDTHS[ERRORS]);
-                whole.tables[ERRORS] = errors;
-                assert_eq!(resolved, whole, "{text}");
+                let whole = whole_with(&file.source, &Jets::new(&file.jets));
+                let (e, text) = (whole.expected, file.source.escape_ascii());
+                assert_eq!(whole.types.len(), e.counts[NAMES] as usize, "{text}");
+                let rows = e.tables[ERRORS].chunks(WIDTHS[ERRORS]);
+                let kinds: Vec<u32> = rows.map(|row| row[0]).collect();
+                assert!(kinds.is_sorted_by_key(|&kind| kind > 2), "{text}");
+                let nodes = e.tables[NODES].chunks(WIDTHS[NODES]);
+                let faults = nodes.map(|node| node[0]).filter(|kind| *kind <= 2);
+                let faults: Vec<u32> = faults.map(|kind| kind + 2).collect();
+                assert!(kinds.ends_with(&faults), "{text}");
+                both += usize::from(!faults.is_empty() && faults.len() < kinds.len());
             }
         });
-        assert!(cut > 0);
+        assert!(both > 0);
     }
 
     #[test]
@@ -131,7 +130,7 @@ mod tests {
         let source =
             "a : 1 -> _ a := b : x -> 2 a := unit : 2 -> 1 prim : 1 -> 1 c : _ -> _ b := c";
         let jets = Jets::new(b"");
-        let (_, types) = oracle::with_stack(|| resolved_with(source.as_bytes(), &jets));
+        let types = oracle::with_stack(|| whole_with(source.as_bytes(), &jets)).types;
         let a = UserTypes {
             source: vec![Type::One, Type::Name("x".to_owned()), Type::Two],
             target: vec![Type::Two, Type::One],

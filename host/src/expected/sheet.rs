@@ -30,25 +30,28 @@ pub const NODE_WORDS: [&str; 20] = [
     "word",
 ];
 
-const ERROR_WORDS: [&str; 4] = ["illegal", "repeated", "missing", "incomplete"];
+/// The kinds of errors, from 1 on, as the listing has them.
+pub const ERROR_WORDS: [&str; 4] = ["illegal", "repeated", "missing", "incomplete"];
 
-/// The listing that the program prints.
+/// The listing that the program prints: the library's, but for a jet list that is too long.
 pub fn sheet(source: &[u8], jets: &[u8]) -> String {
     if jets.len() > JETS_LIMIT {
         return "refused jets\n".to_owned();
     }
-    let e = expected(source, jets);
-    match e.no {
-        0 => listing(source, &e),
-        no => match e.value {
-            0 => format!("refused {no} {}\n", refused_place(source, &e)),
-            value => format!("refused {no} {} {value}\n", refused_place(source, &e)),
-        },
+    listing(source, &expected(source, jets))
+}
+
+/// The listing of an answer about a source.
+pub fn listing(source: &[u8], e: &Expected) -> String {
+    match (e.no, e.value) {
+        (0, _) => rows(source, e),
+        (no, 0) => format!("refused {no} {}\n", refused_place(source, e)),
+        (no, value) => format!("refused {no} {} {value}\n", refused_place(source, e)),
     }
 }
 
-/// The listing of a source that is read: its nodes, roots and errors.
-fn listing(source: &[u8], e: &Expected) -> String {
+/// The rows of a source that is read: its nodes, roots and errors.
+fn rows(source: &[u8], e: &Expected) -> String {
     let text = std::str::from_utf8(source).expect("a source that is read is UTF-8");
     let part = |start: u32, len: u32| &text[start as usize..(start + len) as usize];
     let place = |start: u32| printed(oracle::offset_to_position(text, start as usize));
@@ -68,7 +71,7 @@ fn listing(source: &[u8], e: &Expected) -> String {
     }
     writeln!(out, "roots {}", e.roots.len()).unwrap();
     for root in &e.roots {
-        writeln!(out, "{root}").unwrap();
+        writeln!(out, "{}", root.text).unwrap();
     }
     writeln!(out, "errors {}", e.counts[ERRORS]).unwrap();
     for row in e.tables[ERRORS].chunks(WIDTHS[ERRORS]) {

@@ -176,7 +176,11 @@ fn records() {
             [4, 0, 1, 5, 0, 22, 65, 0],
         ]
     );
-    assert_eq!((e.roots.as_slice(), e.dropped), (&["a".to_owned()][..], 1));
+    let root = Root {
+        number: 1,
+        text: "a".to_owned(),
+    };
+    assert_eq!(e.roots, [root]);
 }
 
 #[test]
@@ -227,7 +231,7 @@ fn names_and_errors() {
         table::<4>(&e, ERRORS),
         [[1, 0, 0, 1], [2, 45, 39, 1], [2, 83, 78, 1], [4, 51, 51, 1],]
     );
-    assert_eq!((e.roots.len(), e.dropped), (1, 1));
+    assert_eq!((e.roots.len(), e.roots[0].number), (1, 3));
 }
 
 #[test]

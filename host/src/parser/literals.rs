@@ -76,7 +76,7 @@ fn of_children<W>(
 fn of_literal(source: &[u8], span: Span, bytes: &[u8], tally: &mut Tally) {
     let (start, len) = (span.start as u32, span.len as u32);
     for index in indexes(bytes.len()) {
-        let told = library::literal_word(source, start, len, index);
+        let told = library::literal_byte(source, start, len, index);
         let byte = bytes.get(index as usize).copied().unwrap_or(0);
         tally.compare(
             source,
@@ -111,7 +111,7 @@ fn at_span(source: &[u8], (start, len): (u32, u32), index: u32, tally: &mut Tall
     tally.compare(
         source,
         || format!("byte {index} of the span at {start}, of {len} bytes"),
-        answer("library", library::literal_word(source, start, len, index)),
+        answer("library", library::literal_byte(source, start, len, index)),
         answer(
             "reference",
             reference::literal_byte(source, start, len, index),

@@ -360,8 +360,8 @@ fn jets() -> Vec<Case> {
             "list with empty pieces and other bytes",
             b"\n\n\xff\n\0\nverify\n\n",
         ),
-        known("list of 65,536 bytes", &filled(65_536)),
-        known("list of 65,537 bytes", &filled(65_537)),
+        known("list of 65,534 bytes", &filled(65_534)),
+        known("list of 65,535 bytes", &filled(65_535)),
         Case::new(
             "second jet not known",
             "a := jet_verify\nb := pair jet_add_32 jet_add_3",

@@ -48,12 +48,8 @@ fn the_list_is_small_and_no_case_stands_twice() {
     assert!((300..=500).contains(&cases.len()), "{}", cases.len());
     let bytes: usize = files.values().map(Vec::len).sum();
     assert!(bytes <= 6_000_000, "{bytes}");
-    // the program that replays the list reads a source and an answer into buffers of 65,536 bytes
-    let replayed = |path: &str| path.starts_with("i/") || path.starts_with("t/");
-    let lengths = files.iter().filter(|(path, _)| replayed(path));
-    assert!(lengths
-        .map(|(_, content)| content.len())
-        .all(|n| n < 65_536));
+    // the program that replays the list reads each file into a buffer of 65,536 bytes
+    assert!(files.values().all(|content| content.len() < 65_536));
     let inputs: HashSet<_> = cases
         .iter()
         .map(|case| (&case.source, &case.jets))
@@ -97,6 +93,33 @@ fn each_kind_of_record_is_met() {
     assert_eq!(kinds(&answers, 3), (1..=6).collect());
     assert_eq!(kinds(&answers, 5), (1..=20).collect());
     assert_eq!(kinds(&answers, 6), (1..=4).collect());
+}
+
+#[test]
+fn the_sheets_show_every_form_of_row() {
+    let sheets: Vec<String> = files()
+        .into_iter()
+        .filter(|(path, _)| path.starts_with("o/"))
+        .map(|(_, sheet)| String::from_utf8(sheet).expect("a sheet of text"))
+        .collect();
+    let rows: Vec<Vec<&str>> = sheets
+        .iter()
+        .flat_map(|sheet| sheet.lines())
+        .map(|row| row.split(' ').collect())
+        .collect();
+    let shown = |wanted: fn(&[&str]) -> bool| rows.iter().any(|row| wanted(row));
+    assert!(shown(|row| matches!(row, ["refused", _, "0:0"])));
+    assert!(shown(|row| matches!(row, ["refused", "2", "1:1"])));
+    assert!(shown(|row| matches!(row, ["refused", "11", _, _])));
+    assert!(shown(|row| matches!(row, [_, "missing", "-", _, "0", "0"])));
+    assert!(shown(|row| matches!(row, ["roots", "0"])));
+    assert!(shown(
+        |row| matches!(row, ["roots", count] if count.len() > 1)
+    ));
+    for kind in ["illegal", "repeated", "missing", "incomplete"] {
+        assert!(rows.iter().any(|row| row[0] == kind && row.len() == 3));
+    }
+    assert!(sheets.iter().all(|sheet| sheet.ends_with('\n')));
 }
 
 #[test]

@@ -3,7 +3,7 @@ use Prim.Native.Nat.{_≤_}
 use mathlib.Core.Path.{_≡_, refl, sym, _∙_}
 use native.Mathlib.Omega.{arith}
 use borrow.Author.Needs.{needs}
-use Rattle.checks.specs.Literals.{log2}
+use Rattle.checks.specs.Powers.{log2}
 use Rattle.checks.proofs.Powers.{log2-hit, log2-miss, log2-end}
 use Rattle.checks.proofs.exact_log2.Statement.{statement}
 use Rattle.checks.proofs.exact_log2.Tie as tie

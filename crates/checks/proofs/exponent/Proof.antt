@@ -4,7 +4,7 @@ use mathlib.Core.Path.{_≡_, refl, sym, _∙_}
 use native.Mathlib.Omega.{arith}
 use lib.ListN.{length, drop}
 use borrow.Author.Needs.{needs}
-use Rattle.checks.specs.Literals.{numberFrom, exponentOf}
+use Rattle.checks.specs.Powers.{numberFrom, exponentOf}
 use Rattle.checks.specs.Code.{exponentCap, capped}
 use Rattle.checks.proofs.Powers.{exponent-more, exponent-end}
 use Rattle.checks.proofs.exponent.Statement.{statement}

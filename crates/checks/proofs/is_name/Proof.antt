@@ -1,7 +1,7 @@
 -- `checks::is_name` meets its contract.
 use borrow.Author.Needs.{needs}
 use borrow.Author.Tests.{eq-eqb, ne-eqb}
-use Rattle.lex.specs.Code.{isWord}
+use Rattle.matches.specs.Code.{isWord}
 use Rattle.checks.proofs.is_name.Statement.{statement}
 use Rattle.checks.proofs.is_name.Tie as tie
 

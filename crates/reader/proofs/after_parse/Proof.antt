@@ -1,7 +1,7 @@
 -- `reader::after_parse` meets its contract: by how parsing ended.
 use Rattle.ends.specs.declared.ParseAnswer.the-variants.{Parsed}
 use Rattle.ends.specs.declared.ParseEnd.{ParseEnd}
-use Rattle.reader.specs.Inner.{nextBy}
+use Rattle.reader.specs.Steps.{nextBy}
 use mathlib.Core.Path.{sym, ap, _∙_}
 use borrow.Author.Needs.{needs}
 use Rattle.reader.proofs.after_parse.Statement.{statement}

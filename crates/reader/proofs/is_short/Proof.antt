@@ -1,5 +1,5 @@
 -- `reader::is_short` meets its contract.
-use Rattle.reader.specs.Inner.{shortBy}
+use Rattle.reader.specs.Reading.{shortBy}
 use mathlib.Core.Path.{refl}
 use Rattle.reader.proofs.is_short.Statement.{statement}
 use Rattle.reader.proofs.is_short.Tie as tie

@@ -1,7 +1,7 @@
 //! Times the library against the Rust in one run, on the same texts.
 
 mod files;
-mod resolve;
+mod read;
 
 use files::*;
 use std::hint::black_box;
@@ -46,7 +46,7 @@ fn main() {
     }
     lex_lines();
     parse_lines();
-    resolve::resolve_lines();
+    read::read_lines();
 }
 
 /// Times the lexers, and how the library's time grows with the text.
@@ -128,7 +128,7 @@ enum Jets {
 
 /// Prints a line about parsing.
 fn parse_time(kind: &str, text: &str, list: &[u8], jets: Jets) {
-    let mut tables = TABLES.map(|words| vec![0; (RULES.records * words) as usize]);
+    let mut tables = tables_of_lines();
     let kept = oracle::Jets::new(list);
     let known = || match jets {
         Jets::Kept => kept.clone(),
@@ -149,6 +149,11 @@ fn parse_time(kind: &str, text: &str, list: &[u8], jets: Jets) {
         speed(text.len(), rust),
         library / rust
     );
+}
+
+/// The tables of the parser.
+fn tables_of_lines() -> [Vec<u32>; 4] {
+    TABLES.map(|words| vec![0; (RULES.records * words) as usize])
 }
 
 fn parse(text: &str, list: &[u8], tables: &mut [Vec<u32>; 4]) -> Counts {
@@ -211,6 +216,12 @@ fn medians<A, B>(mut library: impl FnMut() -> A, mut rust: impl FnMut() -> B) ->
         theirs.push(per_call(&mut rust, rust_calls));
     }
     (median(ours), median(theirs))
+}
+
+/// The median time of one call, in nanoseconds.
+fn median_of<A>(mut work: impl FnMut() -> A) -> f64 {
+    let calls = calls(&mut work);
+    median((0..RUNS).map(|_| per_call(&mut work, calls)).collect())
 }
 
 /// How many calls fill one measurement.

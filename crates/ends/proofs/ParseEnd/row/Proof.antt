@@ -5,9 +5,6 @@ use borrow.Author.Needs.{needs}
 use Rattle.ends.proofs.ParseEnd.row.Statement.{statement}
 use Rattle.ends.proofs.ParseEnd.row.Tie as tie
 
-returns : tie.Need-returns
-returns c = ap rowOfEnd (sym (c .enum-told .given .1))
-
 returns-2 : tie.Need-returns-2
 returns-2 c = c .row .ensures ∙ ap rowOfEnd (sym (c .before .before .self .given .1))
 
@@ -16,7 +13,8 @@ row-spec =
     tie.close
     (tie.spec
     (λ c. search needs)
+    (λ c κs. search needs)
     (λ c. search needs)
     (λ c κs. search needs)
-    returns
+    (λ c. search needs)
     returns-2)

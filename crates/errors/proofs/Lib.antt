@@ -1,0 +1,5 @@
+pub mod Adding
+pub mod Weights
+pub mod Fits
+pub mod NoneLost
+pub mod Examples

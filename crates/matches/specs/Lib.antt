@@ -1,0 +1,4 @@
+pub mod Rows
+pub mod Longest
+pub mod Sets
+pub mod Code

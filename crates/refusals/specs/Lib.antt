@@ -1,0 +1,4 @@
+pub mod Refuses
+pub mod Events
+pub mod Cuts
+pub mod When

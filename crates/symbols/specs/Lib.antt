@@ -1,0 +1,2 @@
+pub mod Symbols
+pub mod Texts
