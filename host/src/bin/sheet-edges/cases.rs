@@ -158,13 +158,13 @@ fn lists_of_no_use() -> Vec<Case> {
     cases
 }
 
-/// Sources about the limit, in pieces, and one that cannot be read.
+/// Sources about the limit, some in two pieces of which the first ends inside a keyword, and one that cannot be read.
 fn sources() -> Vec<Case> {
     let of = |name: &str, source, text| case(name, Jets::Absent, source, print(text));
     let file = |name: &str, bytes, text| of(name, Source::File(bytes), text);
+    let two = |bytes: Vec<u8>| Source::Pipe(bytes[..10].to_vec(), bytes[10..].to_vec());
     let mut bad_end = source_of(SOURCE);
     bad_end[SOURCE - 1] = 0xff;
-    let two = |len| Source::Pipe(source_of(len - 9), vec![b' '; 9]);
     let fails = Must::Fail("sheet: standard input: ");
     vec![
         file("an empty source", vec![], "nodes 0\nroots 0\nerrors 0\n"),
@@ -179,9 +179,13 @@ fn sources() -> Vec<Case> {
             LONG_SOURCE,
         ),
         file("32,768 bytes, the last bad", bad_end, "refused 3 1:32768\n"),
-        of("a source in two pieces", two(NO_JETS.len() + 9), READ),
-        of("32,768 bytes in two pieces", two(SOURCE), READ),
-        of("32,769 bytes in two pieces", two(SOURCE + 1), LONG_SOURCE),
+        of("a source in two pieces", two(NO_JETS.to_vec()), READ),
+        of("32,768 bytes in two pieces", two(source_of(SOURCE)), READ),
+        of(
+            "32,769 bytes in two pieces",
+            two(source_of(SOURCE + 1)),
+            LONG_SOURCE,
+        ),
         case(
             "a source that is a folder",
             Jets::Absent,
