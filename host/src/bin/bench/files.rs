@@ -40,6 +40,11 @@ take_the_left_half_of_the_input_and_put_the_limit_beside_it := \
 pair the_left_half_of_the_input_as_it_was_handed_in the_limit_that_was_agreed_upon_by_both_sides
 ";
 
+/// A jet of a usual length, and one that differs from `last` in its last letter alone, so that a list has more of them and each
+/// is compared to its end.
+pub const USUAL_JET: &str = "add_with_carry_32";
+pub const ALIKE_JET: &str = "lasa";
+
 /// How many keys a typical contract has.
 pub const KEYS: usize = 8;
 
@@ -140,16 +145,12 @@ pub fn jet_lines(jet: &str, lines: usize) -> String {
     (0..lines).map(|n| format!("n{n} := jet_{jet}\n")).collect()
 }
 
-/// A list of so many bytes with jets of a usual length; the first is called `first` and the last `last`.
-pub fn jet_list(bytes: usize) -> Vec<u8> {
+/// A list of so many bytes that begins with the jet `first`, ends with the jet `last`, and has another over and over between.
+pub fn jet_list(other: &str, bytes: usize) -> Vec<u8> {
     let mut list = b"first\n".to_vec();
-    let last = b"\nlast\n";
-    list.extend(
-        b"add_with_carry_32\n"
-            .iter()
-            .cycle()
-            .take(bytes - list.len() - last.len()),
-    );
+    let (others, last) = (format!("{other}\n"), b"\nlast\n");
+    let room = bytes - list.len() - last.len();
+    list.extend(others.bytes().cycle().take(room));
     list.extend(last);
     list
 }

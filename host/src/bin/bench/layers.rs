@@ -87,7 +87,7 @@ fn parse_lines() {
         parse_time(kind, &text, b"", Jets::Kept);
     }
     println!("parsing: the library takes the jet list as bytes; the oracle's stand-in for jets makes a set of it");
-    let list = jet_list(JET_LIST);
+    let list = jet_list(USUAL_JET, JET_LIST);
     for jet in ["first", "last"] {
         let text = jet_lines(jet, LINES);
         let kind = format!("the {jet} jet of a list of {JET_LIST} bytes in every line");

@@ -70,10 +70,11 @@ pub fn print_table() {
 
 /// The files of the table.
 fn files() -> Vec<File> {
-    let jets = |jet: &str| {
+    let jets = |jet: &str, list: &str, other: &str| {
         let texts = [LINES / 2, LINES].map(|lines| jet_lines(jet, lines));
-        let kind = format!("a full file of the {jet} jet of a full list");
-        with_jets(&kind, texts, [JET_LIST / 2, JET_LIST].map(jet_list))
+        let lists = [JET_LIST / 2, JET_LIST].map(|bytes| jet_list(other, bytes));
+        let kind = format!("a full file of the {jet} jet of a full list{list}");
+        with_jets(&kind, texts, lists)
     };
     let chains = |order: &str, backwards| {
         let texts = [LINES / 2, LINES].map(|links| chain(links, backwards));
@@ -88,8 +89,9 @@ fn files() -> Vec<File> {
         ),
         plain("1,024 tokens", [TOKENS / 2, TOKENS].map(short_lines)),
         plain("32,768 bytes", [FULL / 2, FULL].map(commented_lines)),
-        jets("first"),
-        jets("last"),
+        jets("first", "", USUAL_JET),
+        jets("last", "", USUAL_JET),
+        jets("last", " of jets alike", ALIKE_JET),
         chains("each the one before it", false),
         chains("each the one behind it", true),
         plain(
@@ -206,6 +208,10 @@ fn shown(nanos: f64) -> String {
 #[cfg(test)]
 mod tests {
     use super::*;
+    use std::ops::Range;
+
+    /// Which of the files are jets.
+    const JETS: Range<usize> = 4..7;
 
     /// Of each file: bytes and tokens of half of it, and of the whole.
     fn sizes() -> Vec<[(usize, u32); 2]> {
@@ -229,7 +235,7 @@ mod tests {
             assert!(half.abs_diff(tokens / 2) <= tokens / 16);
             assert!(half_bytes.abs_diff(bytes / 2) <= bytes / 16);
         }
-        for file in &files()[4..6] {
+        for file in &files()[JETS] {
             let lists = [&file.half.jets, &file.full.jets].map(Vec::len);
             assert_eq!(lists, [32_768, 65_536]);
         }
@@ -243,7 +249,7 @@ mod tests {
                 let counts = read(input, &mut Tables::new());
                 assert_eq!(counts.nodes as usize, reading.nodes.len());
                 assert_eq!((counts.errors, reading.reported.len()), (0, 0));
-                let roots = if (4..6).contains(&number) {
+                let roots = if JETS.contains(&number) {
                     reading.names.len()
                 } else {
                     1
