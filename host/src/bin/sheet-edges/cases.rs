@@ -75,7 +75,14 @@ fn front(text: &[u8]) -> String {
 
 /// The cases that are picked by hand.
 pub fn edges() -> Vec<Case> {
-    [lists(), lists_of_no_use(), sources(), long_texts()].concat()
+    [
+        lists(),
+        long_lists(),
+        lists_of_no_use(),
+        sources(),
+        long_texts(),
+    ]
+    .concat()
 }
 
 fn case(name: &str, jets: Jets, source: Source, must: Must) -> Case {
@@ -91,49 +98,44 @@ fn print(text: &str) -> Must {
     Must::Print(text.to_owned())
 }
 
-/// Lists that are read, and those that are too long, whatever the source is.
+/// A program of one jet by a list, and what is printed.
+fn one_jet(name: &str, jets: Jets, text: &str) -> Case {
+    case(name, jets, Source::File(ONE_JET.to_vec()), print(text))
+}
+
+/// Lists that are read.
 fn lists() -> Vec<Case> {
-    let one_jet = |name: &str, jets, text| {
-        let source = Source::File(ONE_JET.to_vec());
-        case(name, jets, source, print(text))
-    };
-    let long = |name: &str, source| {
-        let jets = Jets::File(list_of(JETS + 1));
-        case(name, jets, source, print(LONG_LIST))
-    };
-    let mut newline = list_of(JETS);
-    newline.push(b'\n');
+    let (file, link) = (Jets::File, Jets::Link);
     vec![
         one_jet("no list", Jets::Absent, UNKNOWN),
         one_jet("a link to no list", Jets::BrokenLink, UNKNOWN),
-        one_jet("an empty list", Jets::File(vec![]), UNKNOWN),
-        one_jet("a list", Jets::File(b"verify\n".to_vec()), KNOWN),
-        one_jet("a link to a list", Jets::Link(b"a\nverify".to_vec()), KNOWN),
-        one_jet("65,535 bytes of list", Jets::File(list_of(JETS - 1)), KNOWN),
-        one_jet("65,536 bytes of list", Jets::File(list_of(JETS)), KNOWN),
-        one_jet("a link to 65,536", Jets::Link(list_of(JETS)), KNOWN),
-        one_jet(
-            "65,537 bytes of list",
-            Jets::File(list_of(JETS + 1)),
-            LONG_LIST,
-        ),
-        one_jet("a link to 65,537", Jets::Link(list_of(JETS + 1)), LONG_LIST),
-        one_jet("65,536 and a newline", Jets::File(newline), LONG_LIST),
-        one_jet(
-            "200,000 bytes of list",
-            Jets::File(list_of(200_000)),
-            LONG_LIST,
-        ),
-        long("65,537, an empty source", Source::File(vec![])),
-        long(
-            "65,537, a source that is no UTF-8",
-            Source::File(vec![0xff]),
-        ),
-        long(
-            "65,537, a source too long",
-            Source::File(source_of(SOURCE + 1)),
-        ),
-        long("65,537, a source that is a folder", Source::Folder),
+        one_jet("an empty list", file(vec![]), UNKNOWN),
+        one_jet("a list", file(b"verify\n".to_vec()), KNOWN),
+        one_jet("a link to a list", link(b"a\nverify".to_vec()), KNOWN),
+        one_jet("65,535 bytes of list", file(list_of(JETS - 1)), KNOWN),
+        one_jet("65,536 bytes of list", file(list_of(JETS)), KNOWN),
+        one_jet("a link to 65,536", link(list_of(JETS)), KNOWN),
+    ]
+}
+
+/// Lists that are too long, which is said whatever the source is.
+fn long_lists() -> Vec<Case> {
+    let refused = |name: &str, source| {
+        let jets = Jets::File(list_of(JETS + 1));
+        case(name, jets, source, print(LONG_LIST))
+    };
+    let (file, link) = (Jets::File, Jets::Link);
+    let newline = [list_of(JETS), b"\n".to_vec()].concat();
+    let source = Source::File;
+    vec![
+        one_jet("65,537 bytes of list", file(list_of(JETS + 1)), LONG_LIST),
+        one_jet("a link to 65,537", link(list_of(JETS + 1)), LONG_LIST),
+        one_jet("65,536 and a newline", file(newline), LONG_LIST),
+        one_jet("200,000 bytes of list", file(list_of(200_000)), LONG_LIST),
+        refused("65,537, no source", source(vec![])),
+        refused("65,537, a source that is no UTF-8", source(vec![0xff])),
+        refused("65,537, a long source", source(source_of(SOURCE + 1))),
+        refused("65,537, a source that is a folder", Source::Folder),
     ]
 }
 
