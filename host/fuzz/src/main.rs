@@ -1,0 +1,67 @@
+//! Runs libFuzzer over the comparison, with libFuzzer's options and folders as arguments. If `FUZZ_TRIAL` is set, the library
+//! has a mistake.
+//!
+//! The program has a C `main`, since Rust's own would handle the signals by which libFuzzer learns of a crash.
+
+#![no_main]
+
+use fuzz::{Fuzzed, Mistaken, ANSWERS};
+use std::cell::RefCell;
+use std::ffi::{c_char, c_int};
+use std::process::abort;
+use std::sync::atomic::{AtomicPtr, AtomicU8, Ordering};
+use zaghdurem_host::reader::{Callee, Library};
+
+extern "C" {
+    /// libFuzzer's loop, which calls a function with each input. It ends the process itself, unless its options are wrong.
+    fn LLVMFuzzerRunDriver(
+        argc: *mut c_int,
+        argv: *mut *mut *mut c_char,
+        one_input: extern "C" fn(*const u8, usize) -> c_int,
+    ) -> c_int;
+}
+
+/// A count for each answer. libFuzzer keeps an input that moves one, so that files that the oracle never sees are kept too:
+/// those over the limits, and those that are not UTF-8.
+#[link_section = "__libfuzzer_extra_counters"]
+static COUNTERS: [AtomicU8; ANSWERS] = [const { AtomicU8::new(0) }; ANSWERS];
+
+thread_local! {
+    /// The comparison of the one thread that fuzzes.
+    static FUZZED: RefCell<Fuzzed> = RefCell::new(Fuzzed::new(callee()));
+}
+
+/// What is compared with the oracle.
+fn callee() -> &'static dyn Callee {
+    match std::env::var_os("FUZZ_TRIAL") {
+        Some(_) => &Mistaken,
+        None => &Library,
+    }
+}
+
+/// Runs libFuzzer on a thread with a large stack.
+#[no_mangle]
+pub extern "C" fn main(mut argc: c_int, argv: *mut *mut c_char) -> c_int {
+    let argv = AtomicPtr::new(argv);
+    oracle::with_stack(move || {
+        let mut argv = argv.into_inner();
+        // SAFETY: both are those of this program, which live until it ends.
+        unsafe { LLVMFuzzerRunDriver(&mut argc, &mut argv, one_input) }
+    })
+}
+
+/// Compares one input. A disagreement is printed with a smaller input, and ends the process; libFuzzer then saves the input.
+extern "C" fn one_input(bytes: *const u8, len: usize) -> c_int {
+    // SAFETY: libFuzzer gives a pointer to so many bytes, which stay as they are during the call.
+    let input = unsafe { std::slice::from_raw_parts(bytes, len) };
+    match FUZZED.with_borrow_mut(|fuzzed| fuzzed.compare(input)) {
+        Ok(answer) => {
+            COUNTERS[answer].fetch_add(1, Ordering::Relaxed);
+            0
+        }
+        Err(found) => {
+            eprintln!("a disagreement:\n{found}");
+            abort()
+        }
+    }
+}
