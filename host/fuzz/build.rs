@@ -1,5 +1,4 @@
-//! Links with libFuzzer, whose archive the script ./fuzz names. Without it the tests alone can be built, and only if the oracle
-//! has no counters.
+//! Links with libFuzzer, whose archive the script ./fuzz names. Without it the tests alone can be built.
 
 use std::env;
 

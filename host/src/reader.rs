@@ -93,12 +93,12 @@ impl Comparison {
         }
     }
 
-    /// Compares the answer about a source with its jet list, as [`Comparison::compare`] does.
+    /// Compares the answer about a source with its jet list, with tables longer than they have to be.
     pub fn compare_file(&mut self, source: &[u8], jets: &[u8]) {
         self.compare(source, &List::new(jets));
     }
 
-    /// Compares the answer about a file, with tables longer than they have to be.
+    /// The same with a jet list that serves many sources.
     fn compare(&mut self, source: &[u8], list: &List) {
         self.compare_lent(source, list, &[ROOM]);
     }

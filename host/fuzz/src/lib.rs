@@ -69,6 +69,14 @@ impl Fuzzed {
     }
 }
 
+impl Display for Fuzzed {
+    /// How much was compared, and what was met.
+    fn fmt(&self, out: &mut fmt::Formatter<'_>) -> fmt::Result {
+        let Comparison { tallies, met, .. } = &self.comparison;
+        write!(out, "{}; {met}", tallies.total())
+    }
+}
+
 /// An input that shows a disagreement, and one that it shows.
 #[derive(Debug)]
 pub struct Found {

@@ -6,10 +6,10 @@
 #![no_main]
 
 use fuzz::{Fuzzed, Mistaken, ANSWERS};
-use std::cell::RefCell;
 use std::ffi::{c_char, c_int};
 use std::process::abort;
 use std::sync::atomic::{AtomicPtr, AtomicU8, Ordering};
+use std::sync::{LazyLock, Mutex};
 use zaghdurem_host::reader::{Callee, Library};
 
 extern "C" {
@@ -19,6 +19,9 @@ extern "C" {
         argv: *mut *mut *mut c_char,
         one_input: extern "C" fn(*const u8, usize) -> c_int,
     ) -> c_int;
+
+    /// Has a function called when the process ends by `exit`.
+    fn atexit(last: extern "C" fn()) -> c_int;
 }
 
 /// A count for each answer. libFuzzer keeps an input that moves one, so that files that the oracle never sees are kept too:
@@ -26,10 +29,8 @@ extern "C" {
 #[link_section = "__libfuzzer_extra_counters"]
 static COUNTERS: [AtomicU8; ANSWERS] = [const { AtomicU8::new(0) }; ANSWERS];
 
-thread_local! {
-    /// The comparison of the one thread that fuzzes.
-    static FUZZED: RefCell<Fuzzed> = RefCell::new(Fuzzed::new(callee()));
-}
+/// The comparison, which one thread uses.
+static FUZZED: LazyLock<Mutex<Fuzzed>> = LazyLock::new(|| Mutex::new(Fuzzed::new(callee())));
 
 /// What is compared with the oracle.
 fn callee() -> &'static dyn Callee {
@@ -45,16 +46,27 @@ pub extern "C" fn main(mut argc: c_int, argv: *mut *mut c_char) -> c_int {
     let argv = AtomicPtr::new(argv);
     oracle::with_stack(move || {
         let mut argv = argv.into_inner();
-        // SAFETY: both are those of this program, which live until it ends.
-        unsafe { LLVMFuzzerRunDriver(&mut argc, &mut argv, one_input) }
+        // SAFETY: both are those of this program, which live until it ends; so do the functions.
+        unsafe {
+            atexit(report);
+            LLVMFuzzerRunDriver(&mut argc, &mut argv, one_input)
+        }
     })
+}
+
+/// Prints what was compared. An input that fails ends the process in another way.
+extern "C" fn report() {
+    if let Ok(fuzzed) = FUZZED.try_lock() {
+        eprintln!("compared: {fuzzed}");
+    }
 }
 
 /// Compares one input. A disagreement is printed with a smaller input, and ends the process; libFuzzer then saves the input.
 extern "C" fn one_input(bytes: *const u8, len: usize) -> c_int {
     // SAFETY: libFuzzer gives a pointer to so many bytes, which stay as they are during the call.
     let input = unsafe { std::slice::from_raw_parts(bytes, len) };
-    match FUZZED.with_borrow_mut(|fuzzed| fuzzed.compare(input)) {
+    let mut fuzzed = FUZZED.lock().expect("no input panicked before");
+    match fuzzed.compare(input) {
         Ok(answer) => {
             COUNTERS[answer].fetch_add(1, Ordering::Relaxed);
             0

@@ -59,6 +59,18 @@ fn a_mistake_is_found_and_made_smaller() {
 }
 
 #[test]
+fn no_seed_shows_the_mistake() {
+    let seeds = zaghdurem_host::vectors::cases().into_iter();
+    let seeds = seeds.map(|case| [&case.jets[..], b"\0", &case.source].concat());
+    oracle::with_stack(|| {
+        let mut fuzzed = Fuzzed::new(&Mistaken);
+        for seed in seeds {
+            fuzzed.compare(&seed).expect("no disagreement");
+        }
+    });
+}
+
+#[test]
 fn the_dictionary_has_every_kind_of_token_but_one() {
     let lines = include_str!("../tokens.dict").lines();
     let words = lines.filter_map(|line| line.strip_prefix('"')?.strip_suffix('"'));
