@@ -25,7 +25,7 @@ pub(crate) use depths::{BOTTOMS, EXPRESSION_LEVELS, TYPE_BOTTOMS, TYPE_LEVELS};
 pub use examples::example;
 pub use files::{jet_edges, literal_edges, sound, type_edges, unsound};
 pub use limits::{byte_limit, name_series, token_limit};
-pub use soups::{byte_soup, token_soup};
+pub use soups::{any_token, byte_soup, token_soup};
 pub(crate) use vocabulary::{KEYWORDS, PUNCTUATION};
 
 use crate::random::Random;

@@ -1,9 +1,11 @@
-//! The comparison of one input of the fuzzer, by the functions of the comparing run. The Rust recurses, so it has to be
-//! used inside `oracle::with_stack`.
+//! The comparison of one input of the fuzzer, by the functions of the comparing run, and changes to an input. The Rust
+//! recurses, so the comparison has to be used inside `oracle::with_stack`.
 
 mod mistaken;
+mod tokens;
 
 pub use mistaken::Mistaken;
+pub use tokens::changed;
 
 use std::fmt::{self, Display};
 use zaghdurem_host::reader::{Callee, Comparison};

@@ -5,11 +5,12 @@
 
 #![no_main]
 
-use fuzz::{Fuzzed, Mistaken, ANSWERS};
-use std::ffi::{c_char, c_int};
+use fuzz::{changed, Fuzzed, Mistaken, ANSWERS};
+use std::ffi::{c_char, c_int, c_uint};
 use std::process::abort;
 use std::sync::atomic::{AtomicPtr, AtomicU8, Ordering};
 use std::sync::{LazyLock, Mutex};
+use zaghdurem_host::random::Random;
 use zaghdurem_host::reader::{Callee, Library};
 
 extern "C" {
@@ -19,6 +20,9 @@ extern "C" {
         argv: *mut *mut *mut c_char,
         one_input: extern "C" fn(*const u8, usize) -> c_int,
     ) -> c_int;
+
+    /// libFuzzer's own change to the bytes of an input, in place; gives the new length, which is at most `most`.
+    fn LLVMFuzzerMutate(bytes: *mut u8, len: usize, most: usize) -> usize;
 
     /// Has a function called when the process ends by `exit`.
     fn atexit(last: extern "C" fn()) -> c_int;
@@ -76,4 +80,23 @@ extern "C" fn one_input(bytes: *const u8, len: usize) -> c_int {
             abort()
         }
     }
+}
+
+/// Changes an input in place, by its tokens or by its bytes, and gives its new length. libFuzzer calls it by this name.
+#[export_name = "LLVMFuzzerCustomMutator"]
+extern "C" fn change(bytes: *mut u8, len: usize, most: usize, seed: c_uint) -> usize {
+    let mut random = Random::new(seed.into());
+    if random.chance(1, 2) {
+        // SAFETY: this is what libFuzzer lent.
+        return unsafe { LLVMFuzzerMutate(bytes, len, most) };
+    }
+    // SAFETY: libFuzzer lends `most` bytes, of which the first `len` are the input.
+    let changed = changed(
+        unsafe { std::slice::from_raw_parts(bytes, len) },
+        &mut random,
+    );
+    let len = changed.len().min(most);
+    // SAFETY: as above, and what is copied is a vector of its own.
+    unsafe { std::ptr::copy_nonoverlapping(changed.as_ptr(), bytes, len) };
+    len
 }

@@ -72,7 +72,7 @@ pub fn byte_soup(random: &mut Random) -> File {
 }
 
 /// Any token.
-pub(super) fn any_token(random: &mut Random) -> String {
+pub fn any_token(random: &mut Random) -> String {
     match random.below(24) {
         0..=7 => random.text(&PUNCTUATION),
         8..=12 => random.text(&KEYWORDS),
