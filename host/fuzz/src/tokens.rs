@@ -53,7 +53,7 @@ fn lines(tokens: &[(u32, usize)]) -> Vec<(u32, usize)> {
     pairs.map(|pair| (0, pair[0].1)).collect()
 }
 
-/// The source, cut before each of these places but the first. What stands behind the last belongs to its piece.
+/// The source, cut before each of these places but the first; no piece if there is no place.
 fn cut(source: &[u8], places: &[(u32, usize)]) -> Vec<Piece> {
     let ends = places.iter().skip(1).map(|(_, start)| *start);
     let mut begun = 0;
