@@ -1,25 +1,14 @@
-// The program `sheet`: reads standard input and jets.txt, and prints the listing.
+// The program `sheet`: reads jets.txt and standard input, and prints the sheet.
 ghost use Rattle.io.specs.Counts.{Counts};
 use libc::STDIN_FILENO;
 use libc::STDOUT_FILENO;
-use listing::ListAnswer;
-use records::ErrorRecord;
-use records::ExprRecord;
-use records::LineRecord;
-use records::NameRecord;
-use records::NodeRecord;
-use records::TokenRecord;
-use records::TypeRecord;
-use records::WorkRecord;
 use records::limits::Limits;
 
 // A byte more than a source may have, so that one that is too long is seen to be.
 const SOURCE: usize = Limits::SOURCE as usize + 1;
 
-// Bytes of a jet list; only the program has this limit.
-const JETS: usize = 65536;
-
-const RECORDS: usize = Limits::RECORDS as usize;
+// A byte more than a jet list may have, likewise.
+const JETS: usize = sheets::JETS + 1;
 
 // How many bytes of an input there are, and whether it was read to its end or until the buffer was full.
 struct Input {
@@ -58,55 +47,15 @@ fn read_jets(buf: &mut [u8]) -> Input
     jets
 }
 
-// How many bytes are to be written.
-fn listed(answer: ListAnswer) -> isize {
-    let n = match answer {
-        ListAnswer::Listed(n) => n,
-        ListAnswer::NoRoom => 0,
-    };
-    if n <= print::LISTING {
-        return n as isize;
-    }
-    0
-}
-
-// Lists a source into the output, with tables of its own, and answers how many bytes there are.
-fn list_source(source: &[u8], jets: &[u8], out: &mut [u8]) -> usize
-    ensures { λ r. ⌜ Counts r (now (out .exit)) ⌝ }
-{
-    let mut tokens = [0u32; RECORDS * TokenRecord::WORDS as usize];
-    let mut lines = [0u32; RECORDS * LineRecord::WORDS as usize];
-    let mut exprs = [0u32; RECORDS * ExprRecord::WORDS as usize];
-    let mut types = [0u32; RECORDS * TypeRecord::WORDS as usize];
-    let mut names = [0u32; RECORDS * NameRecord::WORDS as usize];
-    let mut nodes = [0u32; RECORDS * NodeRecord::WORDS as usize];
-    let mut errors = [0u32; RECORDS * ErrorRecord::WORDS as usize];
-    let mut work = [0u32; RECORDS * WorkRecord::WORDS as usize];
-    let answer = listing::list(
-        source,
-        jets,
-        &mut tokens,
-        &mut lines,
-        &mut exprs,
-        &mut types,
-        &mut names,
-        &mut nodes,
-        &mut errors,
-        &mut work,
-        out,
-    );
-    io::count(listed(answer), out)
-}
-
-// Prints the listing of a source.
-fn print_listing(source: &[u8], jets: &[u8]) {
+// Prints the sheet of a source.
+fn print_sheet(source: &[u8], jets: &[u8]) {
     let mut out = [0u8; print::LISTING];
-    let n = list_source(source, jets, &mut out);
+    let n = sheets::fill_sheet(source, jets, &mut out);
     io::write_all(STDOUT_FILENO, &out[..n]);
 }
 
-// Reads standard input and prints its listing.
-fn print_sheet(jets: &[u8]) {
+// Reads standard input and prints its sheet.
+fn print_input(jets: &[u8]) {
     let mut source = [0u8; SOURCE];
     let input = read_input(STDIN_FILENO, &mut source);
     if !input.whole {
@@ -114,18 +63,19 @@ fn print_sheet(jets: &[u8]) {
         return;
     }
     let n = input.len;
-    print_listing(&source[..n], jets);
+    print_sheet(&source[..n], jets);
 }
 
+// A list that is too long is refused before any look at the source.
 fn main() {
-    let mut jets = [0u8; JETS + 1];
+    let mut jets = [0u8; JETS];
     let list = read_jets(&mut jets);
     let n = list.len;
     if !list.whole {
         os::fail(b"sheet: jets.txt");
-    } else if JETS < n {
-        io::write_all(STDOUT_FILENO, b"refused jets\n");
+    } else if sheets::JETS < n {
+        print_sheet(b"", &jets[..n]);
     } else {
-        print_sheet(&jets[..n]);
+        print_input(&jets[..n]);
     }
 }

@@ -8,7 +8,7 @@ use compare::Tally;
 use libc::STDOUT_FILENO;
 
 mod compare;
-mod sheets;
+mod replayed;
 mod stored;
 
 // How many cases are stored.
@@ -29,7 +29,7 @@ fn replay(number: u16) -> Tally
     let n = s.len;
     let m = t.len;
     let one = compare::compare(&source[..n], &bytes[..m]);
-    compare::judge(one, sheets::replay(&source[..n], number))
+    compare::judge(one, replayed::replay(&source[..n], number))
 }
 
 // Says the number of a case that is bad.
