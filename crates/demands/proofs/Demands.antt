@@ -5,7 +5,7 @@ use mathlib.Core.Bool.{Bool, true, false}
 use mathlib.Core.Path.{_≡_, refl, sym, ap, subst, _∙_}
 use mathlib.Core.Logic.{_⊎_, inl, inr, _≢_}
 use mathlib.Core.List.{List, [], _∷_}
-use mathlib.Core.Option.{Option, none as no, some}
+use mathlib.Core.Option.{none as no, some}
 use native.Mathlib.Omega.{arith}
 use native.Mathlib.Nat.{zero-add}
 use lib.Dec.{ltb}
@@ -13,7 +13,6 @@ use lib.ListN.{length}
 use Rattle.records.specs.Base.{if_then_else_}
 use Rattle.records.specs.Limits.{sourceLimit}
 use Rattle.records.specs.NodeKind as node
-use Rattle.records.specs.NodeKind.{PartKind}
 use Rattle.records.specs.Refusals as refusal
 use Rattle.records.specs.declared.NameRecord.{NameRecord}
 use Rattle.records.specs.declared.NodeRecord.{NodeRecord}
@@ -24,28 +23,21 @@ use Rattle.lex.specs.Tokens.{Token, lexing}
 use Rattle.lex.specs.declared.LexEnd.{LexEnd}
 use Rattle.lex.specs.declared.LexEnd.the-variants.{Tokens, NoToken, TooManyTokens}
 use Rattle.checks.specs.Checks.{checksOf}
-use Rattle.grammar.specs.Tree.{Expr, Line}
-use Rattle.grammar.specs.Part as part
-use Rattle.grammar.specs.Part.{Part, partOf}
-use Rattle.grammar.specs.Recorded.{partNo}
+use Rattle.grammar.specs.Tree.{Line}
 use Rattle.grammar.specs.Rule.{Parsed, got, stop}
 use Rattle.grammar.specs.Places.{Each, numbered}
 use Rattle.grammar.proofs.Takes.{line-records, records-fit}
 use Rattle.ast.specs.Parsing.{parsing}
-use Rattle.names.specs.Names.{namesOf, nameRecord, firstExpression}
+use Rattle.names.specs.Names.{namesOf, nameRecord}
 use Rattle.names.specs.Uses.{In}
-use Rattle.names.proofs.Reading.{number-some}
-use Rattle.walk.specs.Walk.{Node, Status, Legal, finished}
-use Rattle.walk.specs.Trees as tree
-use Rattle.walk.specs.Trees.{recordNo, outermost, treeBy, treeOf}
+use Rattle.walk.specs.Walk.{Node, Status, Legal}
+use Rattle.walk.specs.Trees.{recordNo}
 use Rattle.walk.specs.Nodes.{walked, nodesOf, inDegree, nodeRecord, nodeRecordsFrom, nodeRecords, nodeNo, nameRecordsFrom, nameRecords}
-use Rattle.walk.specs.Stands.{Points}
 use Rattle.walk.specs.Demand as demand
-use Rattle.walk.proofs.Numbered.{not-there, record-at}
-use Rattle.walk.proofs.Referring.{tree-at}
-use Rattle.walk.proofs.Standing.{every-name-finished}
+use Rattle.walk.proofs.Numbered.{not-there}
 use Rattle.walk.proofs.Demand as walk
-use Rattle.errors.proofs.NoneLost.{none-lost}
+use Rattle.walk.proofs.Basics.{part-number}
+use Rattle.errors.proofs.NoneLost.{none-lost, name-shown}
 use Rattle.access.specs.Roots.{isRoot}
 use Rattle.ends.specs.declared.ReadCounts.{ReadCounts}
 use Rattle.reader.specs.Reading.{Contents, contents, read, refused, byLines, byTokens, byText, reading, countsOf}
@@ -129,26 +121,6 @@ in-record a (x ∷ xs) (inr i) = let r = in-record a xs i in (suc (r .0), r .1)
 
 -- ---- kinds by their numbers
 
--- the parts' numbers are past those of the other kinds
-part-number : (k : PartKind) → 4 ≤ node.partNumber k
-part-number node.assertl = omega arith
-part-number node.assertr = omega arith
-part-number node.iden = omega arith
-part-number node.unit = omega arith
-part-number node.injl = omega arith
-part-number node.injr = omega arith
-part-number node.take = omega arith
-part-number node.drop = omega arith
-part-number node.comp = omega arith
-part-number node.case = omega arith
-part-number node.pair = omega arith
-part-number node.disconnect = omega arith
-part-number node.witness = omega arith
-part-number node.hole = omega arith
-part-number node.fail = omega arith
-part-number node.jet = omega arith
-part-number node.word = omega arith
-
 -- only missing has its number
 number-missing : (k : node.Kind) → node.number k ≡ node.number node.missing → k ≡ node.missing
 number-missing node.missing e = refl
@@ -164,28 +136,6 @@ names-each : (P : NameRecord → Type 0) (ls : List Line) (st : ℕ → Status) 
 unfolding nameRecordsFrom
 names-each P ls st m [] w = tt
 names-each P ls st m (x ∷ xs) w = (w (suc m) x (omega arith) (omega arith), names-each P ls st (suc m) xs (λ n y a b. w n y (omega arith) (omega arith)))
-
--- the tree of a name is not empty, so there is a node of its number
-shown-by : (xs : List Node) (c : ℕ) (ns : List Token) (n : ℕ) (x : Token) (o : Option Expr) → Points xs c (treeBy ns n x o) → (y : Node) × (recordNo xs c ≡ some y)
-unfolding treeBy
-shown-by xs c ns n x no p = (p .0, p .1)
-shown-by xs c ns n x (some e) p = go (partOf e) (number-some e 0) p
-  where
-    go : (q : Part) → 0 < partNo q 0 → Points xs c (outermost n x (tree.numbered ns q)) → (y : Node) × (recordNo xs c ≡ some y)
-    go part.none h p = absurd (omega (arith, h))
-    go (part.part k at s l r) h p = unfold tree.numbered outermost in (p .0, p .1)
-    go (part.refer z) h p = unfold tree.numbered outermost in (p .0, p .1)
-
--- the number that a name is finished with is that of a node
-name-shown : (ls : List Line) (n : ℕ) → Legal (length (namesOf ls)) n → (i : ℕ) → walked ls .status n ≡ finished i → (y : Node) × (recordNo (nodesOf ls) i ≡ some y)
-unfolding walked
-name-shown ls n legal i done =
-    let d = every-name-finished (treeOf ls (namesOf ls)) (length (namesOf ls)) n legal in
-    let x = record-at (namesOf ls) n (legal .0) (legal .1) in
-    let same : d .0 ≡ i = (let e : finished (d .0) ≡ finished i = sym (d .1) ∙ done in cc) in
-    shown-by (nodesOf ls) i (namesOf ls) n (x .0) (firstExpression ls (x .0 .text))
-    (subst (λ (c : ℕ). Points (nodesOf ls) c (treeBy (namesOf ls) n (x .0) (firstExpression ls (x .0 .text)))) same
-    (subst (λ t. Points (nodesOf ls) (d .0) t) (tree-at ls (namesOf ls) n (x .0) (x .1)) (d .2)))
 
 -- ---- the theorems
 
@@ -241,7 +191,7 @@ module _ (source jets : List ℕ) (c : Contents) (e : reading source jets ≡ re
       there i x q = rw nodes-are (node-record (nodesOf ls) i x q)
 
       kept : (n : ℕ) (x : Token) → Legal (length (namesOf ls)) n → Kept (nameRecord ls (nodeNo (walked ls .status n)) x)
-      kept n x l = let r = none-lost ls n l in rw (r .1) (by (r .0) (name-shown ls n l (r .0) (r .1)) (r .2))
+      kept n x l = let r = none-lost ls n l in let s = name-shown ls n l (r .0) (r .1) in rw (r .1) (by (r .0) (s .0, s .1) (r .2))
         where
           by : (i : ℕ) → ((y : Node) × (recordNo (nodesOf ls) i ≡ some y)) → (inDegree (nodesOf ls) i ≡ 0) ⊎ ((y : Node) × In y (nodesOf ls) × (y .kind ≡ node.ref) × (y .left ≡ i)) → Kept (nameRecord ls i x)
           by i (y, at) (inl z) = inl (unfold isRoot nameRecord in rw (there i y at, z))

@@ -18,6 +18,7 @@ use Rattle.cursor.specs.Cursor.{nextNumber}
 use Rattle.cursor.proofs.Steps.{next-below}
 use Rattle.names.specs.Names.{Error, errorRecord, errorRows}
 use Rattle.walk.specs.Walk.{Node}
+use Rattle.walk.proofs.Basics.{part-number}
 use Rattle.walk.specs.Nodes.{inDegree, nodeRecord, nodeRecordsFrom, nodeRecords}
 use Rattle.errors.specs.Errors.{nodeError, errorsBy, nodeErrors, HeldNodes, Appends}
 use Rattle.errors.specs.Code.{errorKind, errorAt, countAfter, tableAfter}
@@ -37,25 +38,8 @@ unfolding errorKind
 kind-none {k} a b = rw (ne-eqb k 1 a, ne-eqb k 2 b)
 
 -- a part is no error
-part-none : (k : PartKind) → errorKind (node.partNumber k) ≡ 0
-unfolding errorKind
-part-none node.assertl = refl
-part-none node.assertr = refl
-part-none node.iden = refl
-part-none node.unit = refl
-part-none node.injl = refl
-part-none node.injr = refl
-part-none node.take = refl
-part-none node.drop = refl
-part-none node.comp = refl
-part-none node.case = refl
-part-none node.pair = refl
-part-none node.disconnect = refl
-part-none node.witness = refl
-part-none node.hole = refl
-part-none node.fail = refl
-part-none node.jet = refl
-part-none node.word = refl
+part-none : (k : PartKind) → 0 ≡ errorKind (node.partNumber k)
+part-none k = kind-none (λ e. omega (arith, e, part-number k)) (λ e. omega (arith, e, part-number k))
 
 -- ---- one function's answer
 
@@ -161,7 +145,7 @@ add-one-node nd n x es old ek ee room b rs h = subst (λ (w : ℕ). Behind old (
     go node.missing r = wrong error.missing 1 (kind-missing refl) (λ q. omega arith) r
     go node.noexpr r = wrong error.incomplete 2 (kind-incomplete refl) (λ q. omega arith) r
     go node.ref r = right 3 (kind-none (λ q. omega arith) (λ q. omega arith))
-    go (node.part k) r = right (node.partNumber k) (sym (part-none k))
+    go (node.part k) r = right (node.partNumber k) (part-none k)
 
 -- ---- the loop
 

@@ -146,6 +146,17 @@ module _ (ls : List Line) where
         let x = record-at names n (legal .0) (legal .1) in
         named-node (nodesOf ls) i names n (x .0) (firstExpression ls (x .0 .text)) (subst (λ (t : Tree). Points (nodesOf ls) i t) (tree-at ls names n (x .0) (x .1)) p)
 
+    -- THE NUMBER THAT A NAME IS FINISHED WITH IS THAT OF ITS NODE
+    pub name-shown : (i : ℕ) → walked ls .status n ≡ finished i → (y : Node) × (recordNo (nodesOf ls) i ≡ some y) × (y .head .name ≡ n)
+    unfolding walked
+    name-shown i done = name-node i (subst (λ (c : ℕ). Points (nodesOf ls) c (tree n)) same (d .2))
+      where
+        d : (c : ℕ) × (walked ls .status n ≡ finished c) × Points (nodesOf ls) c (tree n)
+        d = every-name-finished tree (length names) n legal
+
+        same : d .0 ≡ i
+        same = let e : finished (d .0) ≡ finished i = sym (d .1) ∙ done in cc
+
     -- ONLY A REFERENCE HAS A NAME'S NODE AS ITS CHILD
     pub reference-above : (i : ℕ) → walked ls .status n ≡ finished i → (x : Node) → In x (nodesOf ls) → ChildOf i x → (x .kind ≡ node.ref) × (x .left ≡ i)
     unfolding walked
@@ -154,14 +165,8 @@ module _ (ls : List Line) where
         st : Stands tree (length names) (nodesOf ls) x
         st = each-in (Stands tree (length names) (nodesOf ls)) (nodesOf ls) x (each-stands tree (length names)) j
 
-        d : (c : ℕ) × (walked ls .status n ≡ finished c) × Points (nodesOf ls) c (tree n)
-        d = every-name-finished tree (length names) n legal
-
-        same : d .0 ≡ i
-        same = let e : finished (d .0) ≡ finished i = sym (d .1) ∙ done in cc
-
         own : (y : Node) × (recordNo (nodesOf ls) i ≡ some y) × (y .head .name ≡ n)
-        own = name-node i (subst (λ (c : ℕ). Points (nodesOf ls) c (tree n)) same (d .2))
+        own = name-shown i done
 
         -- i is no child that carries no name number
         apart : (c : ℕ) (t : Tree) → Unnamed t → Points (nodesOf ls) c t → c ≡ i → ⊥

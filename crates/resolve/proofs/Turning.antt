@@ -16,7 +16,7 @@ use Rattle.tables.specs.Tables.{wordAt, written}
 use Rattle.tables.proofs.Words.{word-none}
 use Rattle.cursor.specs.Cursor.{nextNumber}
 use Rattle.walk.specs.Walk.{Head, Own, noexpr, of, ownKind, Tree, none, part, refer, Node, Status, fresh, begun, finished, mark, resolve, ready}
-use Rattle.walk.proofs.Basics.{ready-true, ready-intro, not-begun-done}
+use Rattle.walk.proofs.Basics.{ready-true, ready-intro, not-begun-done, part-number}
 use Rattle.walk.proofs.Machine.{room-down, room-up}
 use Rattle.resolve.specs.declared.StackItem.{StackItem}
 use Rattle.resolve.specs.declared.Walker.{Walker}
@@ -31,25 +31,6 @@ use Rattle.walk.specs.Machine.{Frame, waitRight, waitLeft, waitName, down, up, 
 
 pub no-way : {b : Bool} → b ≡ true → b ≡ false → ⊥
 no-way p q = let z : _≡_ {A = ℕ} 0 1 = cc in omega arith
-
-not-ref : (k : PartKind) → node.partNumber k ≡ 3 → ⊥
-not-ref node.assertl e = omega arith
-not-ref node.assertr e = omega arith
-not-ref node.iden e = omega arith
-not-ref node.unit e = omega arith
-not-ref node.injl e = omega arith
-not-ref node.injr e = omega arith
-not-ref node.take e = omega arith
-not-ref node.drop e = omega arith
-not-ref node.comp e = omega arith
-not-ref node.case e = omega arith
-not-ref node.pair e = omega arith
-not-ref node.disconnect e = omega arith
-not-ref node.witness e = omega arith
-not-ref node.hole e = omega arith
-not-ref node.fail e = omega arith
-not-ref node.jet e = omega arith
-not-ref node.word e = omega arith
 
 pub fresh-both : (m v : ℕ) → freshName m v ≡ true → (1 ≤ m) × (v ≡ 0)
 fresh-both zero v e = let z : _≡_ {A = ℕ} 0 1 = cc in absurd (omega arith)
@@ -115,7 +96,7 @@ at-refer : {source es : List ℕ} {count : ℕ} (w : Given source es count) (e n
 unfolding StandsFor
 at-refer {source} {es} w e n none k s = absurd (omega (arith, word-none exprWidth es 0 0 refl, ap (λ (x : ℕ). wordAt exprWidth es x 0) (s .0), k))
 at-refer {source} {es} w e n (part noexpr h l r) k s = absurd (omega (arith, word-none exprWidth es 0 0 refl, ap (λ (x : ℕ). wordAt exprWidth es x 0) (s .0 .0), k))
-at-refer w e n (part (of o) h l r) k s = absurd (not-ref o (sym (s .0 .1) ∙ k))
+at-refer w e n (part (of o) h l r) k s = absurd (omega (arith, part-number o, sym (s .0 .1) ∙ k))
 at-refer w e n (refer h m) k s = (h, m, refl, s .0, s .2, s .3, s .4)
 
 -- a reference to a fresh name

@@ -10,6 +10,7 @@ use lib.ListN.{length, length-append}
 use lib.Dec.{leb, eqb, T, leb→le, le→leb, eqb→eq, eqb-refl, not-T}
 use Rattle.records.specs.Base.{if_then_else_}
 use Rattle.records.specs.NodeKind as node
+use Rattle.records.specs.NodeKind.{PartKind}
 use Rattle.walk.specs.Walk.{Head, Own, ownKind, Tree, none, part, refer, Node, Status, fresh, begun, finished, State, Walked, marked, mark, finish, resolve, isFresh, walk}
 use Rattle.walk.specs.Walk.{Legal, ready, whole, wholeIf, visitIn, visit, namesTo, unwalked, final}
 
@@ -178,3 +179,25 @@ module _ (F : ℕ → Tree) (N : ℕ) where
       go : (b : Bool) → ready F N n s ≡ b → Grows N (visitIn F N k) → Grow N s (wholeIf F N b (visitIn F N k) n s)
       go true e g = whole-grow (visitIn F N k) g n s (ready-true n s e .0) (ready-true n s e .1)
       go false e g = grow-refl N s
+
+-- ---- kinds by their numbers
+
+-- the parts' numbers are past those of the other kinds
+pub part-number : (k : PartKind) → 4 ≤ node.partNumber k
+part-number node.assertl = omega arith
+part-number node.assertr = omega arith
+part-number node.iden = omega arith
+part-number node.unit = omega arith
+part-number node.injl = omega arith
+part-number node.injr = omega arith
+part-number node.take = omega arith
+part-number node.drop = omega arith
+part-number node.comp = omega arith
+part-number node.case = omega arith
+part-number node.pair = omega arith
+part-number node.disconnect = omega arith
+part-number node.witness = omega arith
+part-number node.hole = omega arith
+part-number node.fail = omega arith
+part-number node.jet = omega arith
+part-number node.word = omega arith
