@@ -1,20 +1,23 @@
--- The jet list piece after piece, as the code goes through it. Assumes nothing.
+-- The jet list piece after piece, and offset after offset, as the code goes through it. Assumes nothing.
 use Prim.Native.Nat.{ℕ, zero, suc, min, _+_, _-_, _≤_, _<_}
-use mathlib.Core.Bool.{Bool, true, false, not, _&&_, _||_}
-use mathlib.Core.Path.{_≡_, refl, sym, _∙_}
+use mathlib.Core.Bool.{Bool, true, false, not, _&&_, _||_, and-true, and-false, or-false}
+use mathlib.Core.Path.{_≡_, refl, sym, ap, _∙_}
 use mathlib.Core.List.{List, [], _∷_}
 use mathlib.Core.Logic.{⊎-elim}
+use native.Mathlib.Numerals.{add-one}
 use native.Mathlib.Omega.{arith}
-use lib.Dec.{eqb, leb, leb·zero, leb·suc-zero, leb·suc-suc, eqb·zero-suc, eqb·suc-zero, eqb·suc-suc}
-use lib.ListN.{length, take, drop, length-drop, drop-of-length-le}
-use lib.Seq.{drop-drop}
-use borrow.Author.Tests.{eqb-true, eqb-false, eq-eqb, ne-eqb, le-leb, lt-leb}
+use lib.Dec.{eqb, leb, leb·suc-zero, leb·suc-suc, eqb·zero-suc, eqb·suc-zero, eqb·suc-suc}
+use lib.ListN.{length, take, drop, getD, length-drop, drop-of-length-le, List·getD-eq-default}
+use lib.Seq.{drop-cons, getD-drop}
+use borrow.Author.Tests.{eqb-true, eqb-false, eq-eqb, ne-eqb}
 use Rattle.records.specs.Base.{if_then_else_}
+use Rattle.records.proofs.Choices.{and-left, and-right}
 use Rattle.classes.proofs.Laws.{part-rest, run-le}
 use Rattle.classes.specs.Classes.{word, starts, run}
 use Rattle.classes.specs.declared.Class.the-variants.{NotLf}
 use Rattle.matches.specs.Code.{isWord}
 use Rattle.checks.specs.Jets.{pushed, pieces, same, isOneOf, known}
+use Rattle.checks.specs.Code.{isFirst, isBehind, isLater, firstOf, lastOf, edged, anyEdged}
 use Rattle.checks.proofs.Powers.{lt-or-le}
 
 -- ---- the first piece, which is a run of other bytes than newlines
@@ -56,52 +59,183 @@ word-same (x ∷ w) (b ∷ s) (suc n) h =
     go false true e = e
     go false false e = refl
 
--- ---- from an offset on
+-- ---- the first piece, and those behind a newline
 
--- the name is a piece of the list from `at` on, which may be past its end
-unfoldable pub listedAt : (name jets : List ℕ) → (at : ℕ) → Bool
-listedAt name jets at = if leb at (length jets) then isOneOf name (pieces (drop at jets)) else false
+first-same : (name s : List ℕ) → same name (take (run NotLf s) s) ≡ isFirst name s
+unfolding isFirst
+first-same name s = sym (word-same name s (run NotLf s) (run-le NotLf s))
 
-module _ (name jets : List ℕ) where
-  pub listed-start : isOneOf name (pieces jets) ≡ listedAt name jets 0
-  unfolding listedAt
-  listed-start = rw (leb·zero (length jets))
+later-pieces : (name s : List ℕ) → isOneOf name (laterPieces (run NotLf s) s) ≡ isLater name s
+unfolding run isLater isOneOf
+later-pieces name [] = refl
+later-pieces name (b ∷ s) = go (eqb b 10) (later-pieces name s)
+  where
+    go : (t : Bool) → isOneOf name (laterPieces (run NotLf s) s) ≡ isLater name s → isOneOf name (laterPieces (if not t then suc (run NotLf s) else 0) (b ∷ s)) ≡ (t && isFirst name s) || isLater name s
+    go true e = rw (leb·suc-zero (length s), pieces-run s, first-same name s, e)
+    go false e = rw (leb·suc-suc (length s) (run NotLf s)) e
 
-  pub listed-end : (at : ℕ) → length jets < at → listedAt name jets at ≡ false
-  unfolding listedAt
-  listed-end at h = rw (lt-leb at (length jets) h)
+listed-split : (name jets : List ℕ) → isOneOf name (pieces jets) ≡ isFirst name jets || isLater name jets
+unfolding isOneOf
+listed-split name jets = rw (pieces-run jets, first-same name jets, later-pieces name jets)
 
--- n is the length of the piece at an offset, and r whether it is the name, as the code has it of the part from there on
-module _ (name jets : List ℕ) (at n : ℕ) (r : Bool) (h : at ≤ length jets) (e : n ≡ run NotLf (drop at jets)) (w : r ≡ isWord name n (take (length jets - at) (drop at jets))) where
-  left : length (drop at jets) ≡ length jets - at
-  left = length-drop at jets
+-- the piece at an offset, r being whether the name stands there, as the code has it of the part from there on
+module _ (name jets : List ℕ) (at : ℕ) (r : Bool) (w : r ≡ starts (word name) (take (length jets - at) (drop at jets))) where
+  stands-here : starts (word name) (drop at jets) ≡ r
+  stands-here = sym (w ∙ rw (part-rest jets at))
 
-  inside : n ≤ length (drop at jets)
-  inside = rw e (run-le NotLf (drop at jets))
+  pub first-not : r ≡ false → false ≡ isFirst name (drop at jets)
+  unfolding isFirst isWord
+  first-not f = rw (stands-here, f, and-false)
 
-  listed-front : listedAt name jets at ≡ r || isOneOf name (laterPieces n (drop at jets))
-  unfolding listedAt isOneOf
-  listed-front =
-      rw (le-leb at (length jets) h, pieces-run (drop at jets), ← e, ← word-same name (drop at jets) n inside, w, part-rest jets at)
+  pub first-ends : r ≡ true → (n : ℕ) → n ≡ run NotLf (drop at jets) → eqb (length name) n ≡ isFirst name (drop at jets)
+  unfolding isFirst isWord
+  first-ends t n e = rw (stands-here, t, and-true, e)
 
-  listed-rest : isOneOf name (laterPieces n (drop at jets)) ≡ listedAt name jets (at + n + 1)
-  unfolding listedAt isOneOf
-  listed-rest =
-      ⊎-elim
-      (λ x.
-      let k : at + n + 1 ≤ length jets = omega (arith, left) in
-      let j : at + suc n ≡ at + n + 1 = omega arith in
-      rw (lt-leb (length (drop at jets)) n x, le-leb (at + n + 1) (length jets) k, drop-drop (suc n) at jets, j))
-      (λ x.
-      let k : length jets < at + n + 1 = omega (arith, left) in
-      rw (le-leb (length (drop at jets)) n x, lt-leb (at + n + 1) (length jets) k))
-      (lt-or-le n (length (drop at jets)))
+-- ---- offset after offset
 
-  pub listed-here : r ≡ true → listedAt name jets at ≡ true
-  listed-here t = listed-front ∙ rw t
+module _ (name jets : List ℕ) (i : ℕ) where
+  later-at : i < length jets → isLater name (drop i jets) ≡ isBehind name jets i || isLater name (drop (i + 1) jets)
+  unfolding isLater isBehind
+  later-at h = rw (drop-cons jets i 0, add-one)
 
-  pub listed-more : r ≡ false → listedAt name jets at ≡ listedAt name jets (at + n + 1)
-  listed-more f = listed-front ∙ rw f listed-rest
+  pub later-found : i < length jets → (r : Bool) → r ≡ isBehind name jets i → r ≡ true → isLater name (drop i jets) ≡ true
+  later-found h r e t = later-at h ∙ rw (← e, t)
+
+  pub later-on : i < length jets → (r : Bool) → r ≡ isBehind name jets i → r ≡ false → isLater name (drop i jets) ≡ isLater name (drop (i + 1) jets)
+  later-on h r e f = later-at h ∙ rw (← e, f)
+
+  later-end : length jets ≤ i → isLater name (drop i jets) ≡ false
+  unfolding isLater
+  later-end h = rw drop-of-length-le
+
+-- ---- the first and the last byte of a name, as the code reads them
+
+-- what an offset past the end has does not matter below it
+get-any : (s : List ℕ) (i d e : ℕ) → i < length s → getD s i d ≡ getD s i e
+get-any [] i d e h = absurd (omega arith)
+get-any (b ∷ s) zero d e h = refl
+get-any (b ∷ s) (suc i) d e h = get-any s i d e (omega arith)
+
+module _ (name : List ℕ) where
+  pub first-none : length name ≡ 0 → 10 ≡ firstOf name
+  unfolding firstOf
+  first-none e = sym (List·getD-eq-default name 10 (omega arith))
+
+  pub first-some : (length name ≡ 0 → ⊥) → getD name 0 0 ≡ firstOf name
+  unfolding firstOf
+  first-some n = get-any name 0 0 10 (omega arith)
+
+  pub last-none : length name ≡ 0 → 10 ≡ lastOf name
+  unfolding lastOf
+  last-none e = rw e
+
+  pub last-some : (length name ≡ 0 → ⊥) → getD name (length name - 1) 0 ≡ lastOf name
+  unfolding lastOf
+  last-some n =
+      let z : length name ≡ suc (length name - 1) = omega arith in
+      get-any name (length name - 1) 0 10 (omega arith) ∙ ap (λ (k : ℕ). getD (10 ∷ name) k 10) (sym z)
+
+-- ---- the edges of a piece
+
+-- each byte of a piece is the name's, and the one behind it is a newline
+piece-byte : (name s : List ℕ) (k : ℕ) → length name ≡ run NotLf s → starts (word name) s ≡ true → length name < length s → k ≤ length name → getD s k 0 ≡ getD name k 10
+unfolding run starts
+piece-byte [] [] k e h l q = absurd (omega arith)
+piece-byte [] (b ∷ s) (suc k) e h l q = absurd (omega arith)
+piece-byte [] (b ∷ s) zero e h l q = go (eqb b 10) refl e
+  where
+    go : (t : Bool) → eqb b 10 ≡ t → 0 ≡ (if not t then suc (run NotLf s) else 0) → b ≡ 10
+    go true x y = eqb-true b 10 x
+    go false x y = absurd (omega arith)
+piece-byte (x ∷ w) [] k e h l q = absurd (omega arith)
+piece-byte (x ∷ w) (b ∷ s) zero e h l q = eqb-true b x (and-left (eqb b x) (starts (word w) s) h)
+piece-byte (x ∷ w) (b ∷ s) (suc k) e h l q =
+    piece-byte w s k (go (eqb b 10) e) (and-right (eqb b x) (starts (word w) s) h) (omega arith) (omega arith)
+  where
+    go : (t : Bool) → suc (length w) ≡ (if not t then suc (run NotLf s) else 0) → length w ≡ run NotLf s
+    go true y = absurd (omega arith)
+    go false y = omega arith
+
+first-byte : (name s : List ℕ) (k : ℕ) → isFirst name s ≡ true → length name < length s → k ≤ length name → getD s k 0 ≡ getD name k 10
+unfolding isFirst isWord
+first-byte name s k h l q =
+    piece-byte name s k (eqb-true (length name) (run NotLf s) (and-left (eqb (length name) (run NotLf s)) (starts (word name) s) h)) (and-right (eqb (length name) (run NotLf s)) (starts (word name) s) h) l q
+
+module _ (name jets : List ℕ) (i : ℕ) (l : i + length name + 1 < length jets) (h : isBehind name jets i ≡ true) where
+  before : getD jets i 0 ≡ 10
+  unfolding isBehind
+  before = eqb-true (getD jets i 0) 10 (and-left (eqb (getD jets i 0) 10) (isFirst name (drop (i + 1) jets)) h)
+
+  byte : (k j : ℕ) → j ≡ i + 1 + k → k ≤ length name → getD jets j 0 ≡ getD name k 10
+  unfolding isBehind
+  byte k j e q =
+      let f : isFirst name (drop (i + 1) jets) ≡ true = and-right (eqb (getD jets i 0) 10) (isFirst name (drop (i + 1) jets)) h in
+      let g : length name < length (drop (i + 1) jets) = omega (arith, length-drop (i + 1) jets) in
+      rw (e, ← getD-drop (i + 1) jets k 0) (first-byte name (drop (i + 1) jets) k f g q)
+
+  last-byte : getD jets (i + length name) 0 ≡ lastOf name
+  unfolding lastOf
+  last-byte = go (length name) refl
+    where
+      go : (m : ℕ) → length name ≡ m → getD jets (i + m) 0 ≡ getD (10 ∷ name) m 10
+      go zero e = let z : i + 0 ≡ i = omega arith in rw z before
+      go (suc k) e = byte k (i + suc k) (omega arith) (omega arith)
+
+  behind-edged : edged jets (length name) (firstOf name) (lastOf name) i ≡ true
+  unfolding edged firstOf
+  behind-edged =
+      rw (
+        eq-eqb _ _ before,
+        eq-eqb _ _ (byte 0 (i + 1) (omega arith) (omega arith)),
+        eq-eqb _ _ last-byte,
+        eq-eqb _ _ (byte (length name) (i + length name + 1) (omega arith) (omega arith) ∙ List·getD-eq-default name 10 (omega arith)),
+      )
+
+or-left-false : (p q : Bool) → p || q ≡ false → p ≡ false
+or-left-false true q e = e
+or-left-false false q e = refl
+
+or-right-false : (p q : Bool) → p || q ≡ false → q ≡ false
+or-right-false true q e = let z : _≡_ {A = ℕ} 0 1 = cc in absurd (omega arith)
+or-right-false false q e = e
+
+-- an offset with other edges has not the name behind it
+not-edged : (name jets : List ℕ) (i : ℕ) → i + length name + 1 < length jets → edged jets (length name) (firstOf name) (lastOf name) i ≡ false → isBehind name jets i ≡ false
+not-edged name jets i l f = go (isBehind name jets i) refl
+  where
+    go : (t : Bool) → isBehind name jets i ≡ t → t ≡ false
+    go true h = sym (behind-edged name jets i l h) ∙ f
+    go false h = refl
+
+-- no offset of n has the edges, so the search goes on behind them
+none-edged : (name jets : List ℕ) (at n : ℕ) → at + length name + n < length jets → anyEdged jets (length name) (firstOf name) (lastOf name) at n ≡ false → isLater name (drop at jets) ≡ isLater name (drop (at + n) jets)
+unfolding anyEdged
+none-edged name jets at zero l f = let z : at + 0 ≡ at = omega arith in rw z
+none-edged name jets at (suc n) l f =
+    let z : at + n + 1 ≡ at + suc n = omega arith in
+    let a : Bool = anyEdged jets (length name) (firstOf name) (lastOf name) at n in
+    let b : Bool = edged jets (length name) (firstOf name) (lastOf name) (at + n) in
+    none-edged name jets at n (omega arith) (or-left-false a b f)
+    ∙ later-at name jets (at + n) (omega arith)
+    ∙ rw (not-edged name jets (at + n) (omega arith) (or-right-false a b f), z)
+
+-- the same, as the code has it of a block
+pub block-none : (name jets : List ℕ) (at n first last : ℕ) (r : Bool) → at + length name + n < length jets → first ≡ firstOf name → last ≡ lastOf name → r ≡ anyEdged jets (length name) first last at n → r ≡ false → isLater name (drop at jets) ≡ isLater name (drop (at + n) jets)
+block-none name jets at n first last r l f g e x = none-edged name jets at n l (rw (← f, ← g, ← e) x)
+
+-- ---- the whole list
+
+-- r is whether the first piece is the name
+module _ (name jets : List ℕ) (r : Bool) (e : r ≡ isFirst name jets) where
+  pub listed-first : r ≡ true → isOneOf name (pieces jets) ≡ true
+  listed-first t = listed-split name jets ∙ rw (← e, t)
+
+  pub listed-later : r ≡ false → isOneOf name (pieces jets) ≡ isLater name jets
+  listed-later f = listed-split name jets ∙ rw (← e, f)
+
+-- r is whether the name is a piece behind a newline from an offset to the end
+pub listed-last : (name jets : List ℕ) (at : ℕ) (r : Bool) → isLater name (drop at jets) ≡ r || isLater name (drop (length jets) jets) → isLater name (drop at jets) ≡ r
+listed-last name jets at r e = e ∙ rw (later-end name jets (length jets) (omega arith), or-false)
 
 -- the name that the code takes of a jet's text
 pub known-listed : (jets text : List ℕ) (at : ℕ) (r : Bool) → at ≡ min 4 (length text) → r ≡ isOneOf (take (length text - at) (drop at text)) (pieces jets) → known jets text ≡ r

@@ -1,11 +1,12 @@
 // Tests on a token's text: the lengths of literals, exponents, jets.
 ghost use mathlib.Core.Path.{_≡_};
+ghost use mathlib.Core.Bool.{_||_};
 ghost use Prim.Native.Nat.{min, _+_, _-_, _*_, _^_, _≤_, _<_};
+ghost use lib.ListN.{length, drop};
 ghost use Rattle.records.specs.Refusals.{row as rowWith, rowOf};
-ghost use Rattle.matches.specs.Code.{isWord};
 ghost use Rattle.checks.specs.Powers.{log2 as logOf, exponentOf};
 ghost use Rattle.checks.specs.Jets.{pieces, isOneOf};
-ghost use Rattle.checks.specs.Code.{exponentCap, capped};
+ghost use Rattle.checks.specs.Code.{exponentCap, capped, isFirst, isBehind, isLater, firstOf, lastOf, blockSize, anyEdged};
 ghost use Rattle.checks.specs.Checks.{refusedAt, wordVerdict, failVerdict, jetVerdict, powerVerdict};
 use classes::Class;
 use records::numbers::ByteOffset;
@@ -65,6 +66,9 @@ const POWER_BOUND: u32 = 10;
 const EXPONENT_MOST: usize = 4294967295;
 
 const EXPONENT_CAP: usize = EXPONENT_MOST + 1;
+
+// The offsets of the jet list that are looked at together.
+const BLOCK: usize = 64;
 
 // A row of the table of refusals.
 fn row(no: u32, at: ByteOffset, value: u32) -> Refusal
@@ -141,29 +145,106 @@ pub fn check_fail(bits: u32) -> Verdict
     Verdict::Pass
 }
 
-// Whether the first n bytes of s are the name.
-fn is_name(s: &[u8], n: usize, name: &[u8]) -> bool
-    ensures { λ r. ⌜ r ≡ isWord (now (name .entry)) n (now (s .entry)) ⌝ }
+// Whether the name is the piece that begins at an offset of the jet list.
+fn is_piece(jets: &[u8], at: usize, name: &[u8]) -> bool
+    requires { ⌜ at ≤ length (now jets) ⌝ }
+    ensures { λ r. ⌜ r ≡ isFirst (now (name .entry)) (drop at (now (jets .entry))) ⌝ }
 {
-    if name.len() != n {
-        return false;
+    if classes::stands(&jets[at..], name) {
+        name.len() == classes::run(jets, at, Class::NotLf)
+    } else {
+        false
     }
-    classes::stands(s, name)
 }
 
-// Whether the name is a piece of the jet list: one pass, piece after piece.
+// Whether a newline stands at an offset, and the name is the piece behind it.
+fn follows(jets: &[u8], at: usize, name: &[u8]) -> bool
+    requires { ⌜ at < length (now jets) ⌝ }
+    ensures { λ r. ⌜ r ≡ isBehind (now (name .entry)) (now (jets .entry)) at ⌝ }
+{
+    if jets[at] == b'\n' {
+        is_piece(jets, at + 1, name)
+    } else {
+        false
+    }
+}
+
+// Whether the name is a piece behind a newline from `from` on and before `end`: offset after offset.
+fn is_later(jets: &[u8], from: usize, end: usize, name: &[u8]) -> bool
+    requires { ⌜ (from ≤ end) × (end ≤ length (now jets)) ⌝ }
+    ensures { λ r. ⌜ isLater (now (name .entry)) (drop from (now (jets .entry))) ≡ r || isLater (now (name .entry)) (drop end (now (jets .entry))) ⌝ }
+{
+    let mut i = from;
+    while i < end {
+        if follows(jets, i, name) {
+            return true;
+        }
+        i += 1;
+    }
+    false
+}
+
+// The first byte of a name. The empty name has a newline there: the one behind it.
+fn first_of(name: &[u8]) -> u8
+    ensures { λ r. ⌜ r ≡ firstOf (now (name .entry)) ⌝ }
+{
+    if name.len() == 0 { b'\n' } else { name[0] }
+}
+
+// The last byte of a name. The empty name has a newline there: the one before it.
+fn last_of(name: &[u8]) -> u8
+    ensures { λ r. ⌜ r ≡ lastOf (now (name .entry)) ⌝ }
+{
+    if name.len() == 0 { b'\n' } else { name[name.len() - 1] }
+}
+
+// Whether at an offset of the block a newline stands, behind it m bytes with this first and last one, and a newline.
+// The loop has no other way out and no branch, so that it is compiled to tests of 16 bytes at once.
+fn any_edged(jets: &[u8], at: usize, m: usize, first: u8, last: u8) -> bool
+    requires { ⌜ at + m + blockSize < length (now jets) ⌝ }
+    ensures { λ r. ⌜ r ≡ anyEdged (now (jets .entry)) m first last at blockSize ⌝ }
+{
+    let mut any = false;
+    let mut k: usize = 0;
+    while k < BLOCK {
+        let i = at + k;
+        any = any
+            | ((jets[i] == b'\n')
+                & (jets[i + 1] == first)
+                & (jets[i + m] == last)
+                & (jets[i + m + 1] == b'\n'));
+        k += 1;
+    }
+    any
+}
+
+// Whether the name is a piece behind a newline of the block. Few blocks have more of it than its edges.
+fn is_in_block(jets: &[u8], at: usize, name: &[u8]) -> bool
+    requires { ⌜ at + length (now name) + blockSize < length (now jets) ⌝ }
+    ensures { λ r. ⌜ isLater (now (name .entry)) (drop at (now (jets .entry))) ≡ r || isLater (now (name .entry)) (drop (at + blockSize) (now (jets .entry))) ⌝ }
+{
+    if any_edged(jets, at, name.len(), first_of(name), last_of(name)) {
+        is_later(jets, at, at + BLOCK, name)
+    } else {
+        false
+    }
+}
+
+// Whether the name is a piece of the jet list: the first one, or one behind a newline, block after block.
 fn is_listed(jets: &[u8], name: &[u8]) -> bool
     ensures { λ r. ⌜ r ≡ isOneOf (now (name .entry)) (pieces (now (jets .entry))) ⌝ }
 {
+    if is_piece(jets, 0, name) {
+        return true;
+    }
     let mut at: usize = 0;
-    while at <= jets.len() {
-        let n = classes::run(jets, at, Class::NotLf);
-        if is_name(&jets[at..], n, name) {
+    while name.len() + BLOCK < jets.len() - at {
+        if is_in_block(jets, at, name) {
             return true;
         }
-        at = at + n + 1;
+        at += BLOCK;
     }
-    false
+    is_later(jets, at, jets.len(), name)
 }
 
 fn lesser(a: usize, b: usize) -> usize

@@ -1,30 +1,35 @@
 -- `checks::is_listed` meets its contract. The loop's invariant: the answer is that for the list from `at` on.
-use Prim.Native.Nat.{_+_, _-_}
+use Prim.Native.Nat.{_+_, _-_, _≤_}
 use mathlib.Core.Path.{_≡_, sym, _∙_}
-use lib.ListN.{length}
+use native.Mathlib.Omega.{arith}
+use lib.ListN.{length, drop}
 use borrow.Author.Needs.{needs}
 use Rattle.checks.specs.Jets.{pieces, isOneOf}
-use Rattle.checks.proofs.Lines.{listedAt, listed-start, listed-here, listed-more, listed-end}
+use Rattle.checks.specs.Code.{isLater}
+use Rattle.checks.proofs.Lines.{listed-first, listed-later, listed-last}
 use Rattle.checks.proofs.is_listed.Statement.{statement}
 use Rattle.checks.proofs.is_listed.Tie as tie
 
 abbrev Inv-loop : tie.InvT-loop
-Inv-loop jets name at₀ at = isOneOf name (pieces jets) ≡ listedAt name jets at
+Inv-loop jets name at₀ at = (at ≤ length jets) × (isOneOf name (pieces jets) ≡ isLater name (drop at jets))
 
 abbrev μ-loop : tie.MeasureT-loop
-μ-loop jets name at₀ at = length jets + 1 - at
-
-loop-holds : tie.Need-loop-holds Inv-loop μ-loop
-loop-holds c = listed-start _ _
+μ-loop jets name at₀ at = length jets - at
 
 returns : tie.Need-returns Inv-loop μ-loop
-returns c = sym (c .before .before .before .before .before .loop .inv ∙ listed-here _ _ _ _ _ (c .before .before .before .before .loop-test .taken) (c .before .before .before .run .ensures .0) (c .before .is-name .ensures) (c .if1 .taken))
+returns c = sym (listed-first _ _ _ (c .before .is-piece .ensures) (c .if1 .taken))
 
-loop-again : tie.Need-loop-again Inv-loop μ-loop
-loop-again c = c .before .before .before .before .before .loop .inv ∙ listed-more _ _ _ _ _ (c .before .before .before .before .loop-test .taken) (c .before .before .before .run .ensures .0) (c .before .is-name .ensures) (c .if1 .left)
+loop-holds : tie.Need-loop-holds Inv-loop μ-loop
+loop-holds c = (omega arith, listed-later _ _ _ (c .before .is-piece .ensures) (c .if1 .left))
 
 returns-2 : tie.Need-returns-2 Inv-loop μ-loop
-returns-2 c = sym (c .before .loop .inv ∙ listed-end _ _ _ (c .loop-test .left))
+returns-2 c = sym (c .before .before .before .loop .inv .1 ∙ (c .before .is-in-block .ensures ∙ rw (c .if2 .taken)))
+
+loop-again : tie.Need-loop-again Inv-loop μ-loop
+loop-again c = (omega arith, c .before .before .before .loop .inv .1 ∙ (c .before .is-in-block .ensures ∙ rw (c .if2 .left)))
+
+returns-3 : tie.Need-returns-3 Inv-loop μ-loop
+returns-3 c = sym (c .before .before .loop .inv .1 ∙ listed-last _ (c .before .before .before .before .before .before .before .args .jets .now) (c .before .before .loop .at) _ (c .is-later .ensures))
 
 pub is-listed-spec : {M : Type 1} → statement M
 is-listed-spec =
@@ -32,15 +37,15 @@ is-listed-spec =
     (tie.spec
     Inv-loop
     μ-loop
-    loop-holds
-    (λ c κs. search needs)
-    (λ c. search needs)
-    (λ c. search needs)
-    (λ c. search needs)
     (λ c κs. search needs)
     returns
+    loop-holds
     (λ c. search needs)
+    (λ c. search needs)
+    (λ c κs. search needs)
+    returns-2
     (λ c. search needs)
     (λ c. search needs)
     loop-again
-    returns-2)
+    (λ c κs. search needs)
+    returns-3)
