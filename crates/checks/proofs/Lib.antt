@@ -1,4 +1,5 @@
 pub mod Powers
 pub mod Lines
+pub mod Edges
 pub mod Jets
 pub mod Examples

@@ -46,11 +46,11 @@ unfoldable pub edged : (jets : List ℕ) → (m first last i : ℕ) → Bool
 edged jets m first last i =
     eqb (getD jets i 0) 10 && eqb (getD jets (i + 1) 0) first && eqb (getD jets (i + m) 0) last && eqb (getD jets (i + m + 1) 0) 10
 
--- the offsets that are looked at together
+-- the offsets that are tested together
 abbrev pub blockSize : ℕ
 blockSize = 64
 
--- one of n offsets from `at` on has that
+-- one of the n offsets from `at` on has that
 unfoldable pub anyEdged : (jets : List ℕ) → (m first last at n : ℕ) → Bool
 anyEdged jets m first last at zero = false
 anyEdged jets m first last at (suc n) = anyEdged jets m first last at n || edged jets m first last (at + n)

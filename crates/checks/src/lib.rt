@@ -67,7 +67,7 @@ const EXPONENT_MOST: usize = 4294967295;
 
 const EXPONENT_CAP: usize = EXPONENT_MOST + 1;
 
-// The offsets of the jet list that are looked at together.
+// The offsets of the jet list that are tested together.
 const BLOCK: usize = 64;
 
 // A row of the table of refusals.
@@ -169,7 +169,7 @@ fn follows(jets: &[u8], at: usize, name: &[u8]) -> bool
     }
 }
 
-// Whether the name is a piece behind a newline from `from` on and before `end`: offset after offset.
+// Whether the name is a piece behind a newline that stands before `end`, from `from` on: offset after offset.
 fn is_later(jets: &[u8], from: usize, end: usize, name: &[u8]) -> bool
     requires { ⌜ (from ≤ end) × (end ≤ length (now jets)) ⌝ }
     ensures { λ r. ⌜ isLater (now (name .entry)) (drop from (now (jets .entry))) ≡ r || isLater (now (name .entry)) (drop end (now (jets .entry))) ⌝ }
@@ -195,11 +195,15 @@ fn first_of(name: &[u8]) -> u8
 fn last_of(name: &[u8]) -> u8
     ensures { λ r. ⌜ r ≡ lastOf (now (name .entry)) ⌝ }
 {
-    if name.len() == 0 { b'\n' } else { name[name.len() - 1] }
+    if name.len() == 0 {
+        b'\n'
+    } else {
+        name[name.len() - 1]
+    }
 }
 
-// Whether at an offset of the block a newline stands, behind it m bytes with this first and last one, and a newline.
-// The loop has no other way out and no branch, so that it is compiled to tests of 16 bytes at once.
+// Whether an offset of the block has a newline, behind it m bytes with this first and last one, and a newline. The loop
+// has no branch and no other way out, so that it is compiled to tests of 16 bytes at once.
 fn any_edged(jets: &[u8], at: usize, m: usize, first: u8, last: u8) -> bool
     requires { ⌜ at + m + blockSize < length (now jets) ⌝ }
     ensures { λ r. ⌜ r ≡ anyEdged (now (jets .entry)) m first last at blockSize ⌝ }
@@ -218,12 +222,14 @@ fn any_edged(jets: &[u8], at: usize, m: usize, first: u8, last: u8) -> bool
     any
 }
 
-// Whether the name is a piece behind a newline of the block. Few blocks have more of it than its edges.
-fn is_in_block(jets: &[u8], at: usize, name: &[u8]) -> bool
+// Whether the name is a piece behind a newline of the block. Only a block that has its first and last byte between
+// newlines is searched: most have not.
+fn is_in_block(jets: &[u8], at: usize, name: &[u8], first: u8, last: u8) -> bool
+    requires { ⌜ (first ≡ firstOf (now name)) × (last ≡ lastOf (now name)) ⌝ }
     requires { ⌜ at + length (now name) + blockSize < length (now jets) ⌝ }
     ensures { λ r. ⌜ isLater (now (name .entry)) (drop at (now (jets .entry))) ≡ r || isLater (now (name .entry)) (drop (at + blockSize) (now (jets .entry))) ⌝ }
 {
-    if any_edged(jets, at, name.len(), first_of(name), last_of(name)) {
+    if any_edged(jets, at, name.len(), first, last) {
         is_later(jets, at, at + BLOCK, name)
     } else {
         false
@@ -237,9 +243,11 @@ fn is_listed(jets: &[u8], name: &[u8]) -> bool
     if is_piece(jets, 0, name) {
         return true;
     }
+    let first = first_of(name);
+    let last = last_of(name);
     let mut at: usize = 0;
     while name.len() + BLOCK < jets.len() - at {
-        if is_in_block(jets, at, name) {
+        if is_in_block(jets, at, name, first, last) {
             return true;
         }
         at += BLOCK;

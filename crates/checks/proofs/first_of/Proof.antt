@@ -1,6 +1,6 @@
 -- `checks::first_of` meets its contract.
 use borrow.Author.Needs.{needs}
-use Rattle.checks.proofs.Lines.{first-none, first-some}
+use Rattle.checks.proofs.Edges.{first-none, first-some}
 use Rattle.checks.proofs.first_of.Statement.{statement}
 use Rattle.checks.proofs.first_of.Tie as tie
 

@@ -1,6 +1,6 @@
 -- `checks::last_of` meets its contract.
 use borrow.Author.Needs.{needs}
-use Rattle.checks.proofs.Lines.{last-none, last-some}
+use Rattle.checks.proofs.Edges.{last-none, last-some}
 use Rattle.checks.proofs.last_of.Statement.{statement}
 use Rattle.checks.proofs.last_of.Tie as tie
 
