@@ -118,7 +118,15 @@ module _ (name jets : List ℕ) (r : Bool) (e : r ≡ isFirst name jets) where
   pub listed-later : r ≡ false → isOneOf name (pieces jets) ≡ isLater name jets
   listed-later f = listed-split name jets ∙ rw (← e, f)
 
--- r is whether the name is a piece behind a newline from an offset to the end
+-- r is whether the name is a piece behind a newline from an offset to another
+module _ (name jets : List ℕ) (from end : ℕ) (r : Bool) (e : isLater name (drop from jets) ≡ r || isLater name (drop end jets)) where
+  pub part-found : r ≡ true → isLater name (drop from jets) ≡ true
+  part-found t = e ∙ rw t
+
+  pub part-passed : r ≡ false → isLater name (drop from jets) ≡ isLater name (drop end jets)
+  part-passed f = e ∙ rw f
+
+-- r is whether the name is a piece behind a newline from an offset to the end of the list
 pub listed-last : (name jets : List ℕ) (at : ℕ) (r : Bool) → isLater name (drop at jets) ≡ r || isLater name (drop (length jets) jets) → isLater name (drop at jets) ≡ r
 listed-last name jets at r e = e ∙ rw (later-end name jets (length jets) (omega arith), or-false)
 
