@@ -8,9 +8,9 @@ use borrow.Author.Tests.{le-leb}
 use lib.Dec.{leb}
 use lib.ListN.{length}
 use Rattle.records.specs.Base.{if_then_else_}
+use Rattle.records.specs.Records.{noSpan}
 use Rattle.records.specs.declared.Span.{Span}
 use Rattle.literals.specs.Literals.{spanText}
-use Rattle.grammar.specs.Part.{noSpan}
 use Rattle.access.specs.Access.{partIn, nameSpan, nameTextOf}
 
 pub part-text : (source : List ℕ) (s : Span) → spanText source (partIn (length source) s) ≡ spanText source s

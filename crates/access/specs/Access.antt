@@ -6,11 +6,10 @@ use lib.Dec.{eqb, leb}
 use lib.ListN.{length}
 use Rattle.records.specs.Base.{if_then_else_, within}
 use Rattle.records.specs.Limits.{recordLimit, nameWidth, nodeWidth}
+use Rattle.records.specs.Records.{noSpan}
 use Rattle.records.specs.declared.Span.{Span}
-use Rattle.tables.specs.Tables.{wordAt}
+use Rattle.tables.specs.Tables.{wordAt, spanAt}
 use Rattle.literals.specs.Literals.{spanText}
-use Rattle.grammar.specs.Part.{noSpan}
-use Rattle.symbols.specs.Texts.{spanAt}
 
 -- a span as a part of the source: itself if it lies inside, else an empty part
 unfoldable pub partIn : (size : ℕ) → Span → Span

@@ -2,24 +2,12 @@
 ghost use mathlib.Core.Path.{_≡_};
 ghost use lib.ListN.{length};
 ghost use Rattle.records.specs.Limits.{nodeWidth};
-ghost use Rattle.grammar.specs.Part.{noSpan};
 ghost use Rattle.access.specs.Access.{partIn, nameSpan, nameTextOf, inTable, isRootAt, nextRoot};
 use records::NameRecord;
 use records::NodeRecord;
 use records::Span;
 use records::limits::Limits;
-use records::numbers::ByteOffset;
 use records::numbers::NameNo;
-
-// The span of no text.
-fn no_span() -> Span
-    ensures { λ r. ⌜ r ≡ noSpan ⌝ }
-{
-    Span {
-        start: ByteOffset(0),
-        len: 0,
-    }
-}
 
 // A span as a part of a source of `size` bytes: itself if it lies inside, else an empty part.
 pub fn span_part(size: usize, span: Span) -> Span
@@ -29,7 +17,7 @@ pub fn span_part(size: usize, span: Span) -> Span
     if from.0 as usize + span.len as usize <= size {
         span
     } else {
-        no_span()
+        records::no_span()
     }
 }
 
@@ -40,7 +28,7 @@ fn name_span(names: &[u32], count: u32, number: NameNo) -> Span
     if (1 <= number.0) & (number.0 <= count) {
         symbols::name_span(names, number)
     } else {
-        no_span()
+        records::no_span()
     }
 }
 

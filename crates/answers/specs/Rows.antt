@@ -5,8 +5,8 @@ use Rattle.lex.specs.declared.LexAnswer.{LexAnswer}
 use Rattle.ends.specs.Rows.{rowOfParse, countsOfParse, rowOfRead, countsOfRead}
 use Rattle.ends.specs.declared.ParseAnswer.{ParseAnswer}
 use Rattle.ends.specs.declared.ReadAnswer.{ReadAnswer}
-use Rattle.listing.specs.declared.ListAnswer.{ListAnswer}
-use Rattle.listing.specs.declared.ListAnswer.the-variants.{Listed, NoRoom}
+use Rattle.ends.specs.declared.ListAnswer.{ListAnswer}
+use Rattle.ends.specs.declared.ListAnswer.the-variants.{Listed, NoRoom}
 use Rattle.answers.specs.declared.LexedRow.{LexedRow}
 use Rattle.answers.specs.declared.ParsedRow.{ParsedRow}
 use Rattle.answers.specs.declared.ReadRow.{ReadRow}

@@ -1,10 +1,10 @@
 // What a host is handed for an answer: a struct of numbers, which passes over C.
 ghost use mathlib.Core.Path.{_≡_};
 ghost use Rattle.answers.specs.Rows.{lexedRow, parsedRow, readRow, partRow, listedRow};
+use ends::ListAnswer;
 use ends::ParseAnswer;
 use ends::ReadAnswer;
 use lex::LexAnswer;
-use listing::ListAnswer;
 use records::Span;
 
 // A row of the table of refusals, and how many tokens there are.

@@ -27,7 +27,7 @@ use Rattle.cursor.proofs.Reached.{reached-none, reached-ready, reached-go}
 use Rattle.grammar.specs.Tree.{Line, typesOf}
 use Rattle.grammar.specs.Rule.{Parsed, got, stop, goOn, repeatFor, repeat}
 use Rattle.grammar.specs.Grammar.{line, another, lines}
-use Rattle.grammar.specs.Recorded.{typeRecords, linePart, exprsOf, sourceWeight, typesIn, lineRecord, lineTypes, exprRecords, lineRecords, linesExprs, linesTypes, lineRows, exprRowsOf, typeRowsOf}
+use Rattle.grammar.specs.Recorded.{typeRecords, linePart, exprsOf, sourceWeight, typesInLine, lineRecord, lineTypes, exprRecords, lineRecords, linesExprs, linesTypes, lineRows, exprRowsOf, typeRowsOf}
 use Rattle.grammar.proofs.Repeat.{repeat-stop, repeat-on, repeat-off}
 use Rattle.grammar.proofs.Sound.{lines-steps}
 use Rattle.grammar.proofs.Takes.{total, expr-records, type-records, line-records, lines-exprs, lines-types}
@@ -47,7 +47,7 @@ unfolding total
 total-snoc w [] l = omega arith
 total-snoc w (k ∷ ls) l = ap (λ (n : ℕ). w k + n) (total-snoc w ls l) ∙ omega arith
 
-line-types : (l : Line) (m : ℕ) → length (lineTypes l m) ≡ typesIn l
+line-types : (l : Line) (m : ℕ) → length (lineTypes l m) ≡ typesInLine l
 unfolding lineTypes
 line-types l m = length-append (typeRecords (typesOf l .source) m) (typeRecords (typesOf l .target) (m + sourceWeight l)) ∙ omega (arith, type-records (typesOf l .source) m, type-records (typesOf l .target) (m + sourceWeight l))
 
@@ -76,7 +76,7 @@ module _ (s t : List ℕ) (n : ℕ) (few : n ≤ recordLimit) (checks : Checks) 
     pub ls : List Line
     pub rest : List Token
     pub whole : lines checks ts ≡ repeat (another checks) ls rest
-    pub at : Reached s t n start c rest (total exprsOf ls) (total typesIn ls)
+    pub at : Reached s t n start c rest (total exprsOf ls) (total typesInLine ls)
     pub size : made ≡ length ls
     pub behind : made ≤ c .token .0
     pub lines-in : L ≡ tableOf lineWidth (lineRows ls) oldL
@@ -99,8 +99,8 @@ module _ (s t : List ℕ) (n : ℕ) (few : n ≤ recordLimit) (checks : Checks) 
     exprs-so-far : c .expr .0 ≡ total exprsOf (g .ls)
     exprs-so-far = g .at .exprs ∙ zero-add (total exprsOf (g .ls))
 
-    types-so-far : c .ty .0 ≡ total typesIn (g .ls)
-    types-so-far = g .at .types ∙ zero-add (total typesIn (g .ls))
+    types-so-far : c .ty .0 ≡ total typesInLine (g .ls)
+    types-so-far = g .at .types ∙ zero-add (total typesInLine (g .ls))
 
     -- ---- the end
 
@@ -143,14 +143,14 @@ module _ (s t : List ℕ) (n : ℕ) (few : n ≤ recordLimit) (checks : Checks) 
               let z : Read r d ≡ Read (lineRecord l (c .expr .0) (c .ty .0)) (h .0) = h .1 in
               let er : r ≡ lineRecord l (c .expr .0) (c .ty .0) = cc in
               let ed : h .0 ≡ d = cc in
-              let to-d : Reached s t n c d q (exprsOf l) (typesIn l) = subst (λ (i : Cursor). Reached s t n c i q (exprsOf l) (typesIn l)) ed (h .2) in
+              let to-d : Reached s t n c d q (exprsOf l) (typesInLine l) = subst (λ (i : Cursor). Reached s t n c i q (exprsOf l) (typesInLine l)) ed (h .2) in
               let on : c .token .0 < d .token .0 = subst (λ (i : Cursor). c .token .0 < i .token .0) ed (h .3) in
               let ls' : List Line = g .ls ++ (l ∷ []) in
-              let at' : Reached s t n start d q (total exprsOf ls') (total typesIn ls') = rw (total-snoc exprsOf (g .ls) l, total-snoc typesIn (g .ls) l) (reached-go s t n (g .at) to-d) in
+              let at' : Reached s t n start d q (total exprsOf ls') (total typesInLine ls') = rw (total-snoc exprsOf (g .ls) l, total-snoc typesInLine (g .ls) l) (reached-go s t n (g .at) to-d) in
               let next : k ≡ made + 1 = ek ∙ sym (next-below (omega (arith, g .behind))) in
               let number : made + 1 ≡ length ls' = ap (λ (i : ℕ). i + 1) (g .size) ∙ sym (length-append (g .ls) (l ∷ [])) in
               let step : another checks (g .ls) (g .rest) ≡ got (some ls') q = step-is ∙ ap after (sym e) in
-              let row : lineWords r ≡ lineWords (lineRecord l (total exprsOf (g .ls)) (total typesIn (g .ls))) = ap lineWords (er ∙ ap (λ (i : ℕ). lineRecord l i (c .ty .0)) exprs-so-far ∙ ap (lineRecord l (total exprsOf (g .ls))) types-so-far) in
+              let row : lineWords r ≡ lineWords (lineRecord l (total exprsOf (g .ls)) (total typesInLine (g .ls))) = ap lineWords (er ∙ ap (λ (i : ℕ). lineRecord l i (c .ty .0)) exprs-so-far ∙ ap (lineRecord l (total exprsOf (g .ls))) types-so-far) in
               let room : made < recordLimit = omega (arith, g .behind) in (
                 record {
                   ls = ls';
@@ -160,18 +160,18 @@ module _ (s t : List ℕ) (n : ℕ) (few : n ≤ recordLimit) (checks : Checks) 
                   size = next ∙ number;
                   behind = omega (arith, g .behind);
                   lines-in =
-                      grown lineWidth lineWords (λ a. refl) oldL (lineRecords (g .ls) 0 0) (lineRecord l (total exprsOf (g .ls)) (total typesIn (g .ls)) ∷ []) (lineRecords ls' 0 0) made L L' (line-records (g .ls) 0 0 ∙ sym (g .size)) (omega arith)
-                      (line-records-snoc (g .ls) l 0 0 ∙ rw (zero-add (total exprsOf (g .ls)), zero-add (total typesIn (g .ls)))) (g .lines-in)
-                      (el ∙ ap (λ (i : ℕ). written lineWidth L i (lineWords r)) next ∙ ap (written lineWidth L (made + 1)) row ∙ sym (filled-one lineWidth L made (lineWords (lineRecord l (total exprsOf (g .ls)) (total typesIn (g .ls))))));
+                      grown lineWidth lineWords (λ a. refl) oldL (lineRecords (g .ls) 0 0) (lineRecord l (total exprsOf (g .ls)) (total typesInLine (g .ls)) ∷ []) (lineRecords ls' 0 0) made L L' (line-records (g .ls) 0 0 ∙ sym (g .size)) (omega arith)
+                      (line-records-snoc (g .ls) l 0 0 ∙ rw (zero-add (total exprsOf (g .ls)), zero-add (total typesInLine (g .ls)))) (g .lines-in)
+                      (el ∙ ap (λ (i : ℕ). written lineWidth L i (lineWords r)) next ∙ ap (written lineWidth L (made + 1)) row ∙ sym (filled-one lineWidth L made (lineWords (lineRecord l (total exprsOf (g .ls)) (total typesInLine (g .ls))))));
                   exprs-in =
                       grown exprWidth exprWords (λ a. refl) oldE (linesExprs (g .ls) 0) (exprRecords (linePart l) (total exprsOf (g .ls))) (linesExprs ls' 0) (total exprsOf (g .ls)) E E' (lines-exprs (g .ls) 0)
                       (omega (arith, expr-records (linePart l) (total exprsOf (g .ls)), to-d .room .0, g .at .room .0, to-d .inside))
                       (lines-exprs-snoc (g .ls) l 0 ∙ rw (zero-add (total exprsOf (g .ls)))) (g .exprs-in)
                       (h .4 ∙ ap (λ (i : ℕ). filled exprWidth E i (exprRows (linePart l) i)) exprs-so-far);
                   types-in =
-                      grown typeWidth typeWords (λ a. refl) oldT (linesTypes (g .ls) 0) (lineTypes l (total typesIn (g .ls))) (linesTypes ls' 0) (total typesIn (g .ls)) T T' (lines-types (g .ls) 0)
-                      (omega (arith, line-types l (total typesIn (g .ls)), to-d .room .1, g .at .room .1, to-d .inside))
-                      (lines-types-snoc (g .ls) l 0 ∙ rw (zero-add (total typesIn (g .ls)))) (g .types-in)
+                      grown typeWidth typeWords (λ a. refl) oldT (linesTypes (g .ls) 0) (lineTypes l (total typesInLine (g .ls))) (linesTypes ls' 0) (total typesInLine (g .ls)) T T' (lines-types (g .ls) 0)
+                      (omega (arith, line-types l (total typesInLine (g .ls)), to-d .room .1, g .at .room .1, to-d .inside))
+                      (lines-types-snoc (g .ls) l 0 ∙ rw (zero-add (total typesInLine (g .ls)))) (g .types-in)
                       (h .5 ∙ ap (λ (i : ℕ). filled typeWidth T i (map typeWords (lineTypes l i))) types-so-far);
                 },
                 on,

@@ -36,7 +36,7 @@ use Rattle.ends.specs.declared.ParseEnd.{ParseEnd}
 use Rattle.ends.specs.declared.ParseEnd.the-variants.{Lines, Refused}
 use Rattle.ends.specs.declared.ParseAnswer.{ParseAnswer}
 use Rattle.ends.specs.declared.ParseAnswer.the-variants.{NotLexed, Parsed as WasParsed}
-use Rattle.ast.specs.Parsing.{Tables, tables, shortBy, lexedBy, tokensKept, tokensIn, linesIn, endBy, parsing, holding, parsedBy, leftBy, parseAll, tablesAfter}
+use Rattle.ast.specs.Parsing.{ParserTables, tables, shortToParseBy, lexedBy, tokensKept, tokensIn, linesIn, endBy, parsing, holdingLines, parsedBy, leftBy, parseAll, tablesAfter}
 
 -- ---- room
 
@@ -45,8 +45,8 @@ or-false false q e = (refl, e)
 or-false true q e = absurd (let z : _≡_ {A = ℕ} 0 1 = cc in omega arith)
 
 -- tables that are not too short
-pub has-room : (a b c d : ℕ) → shortBy a b c d ≡ false → (recordLimit * tokenWidth ≤ a) × (recordLimit * lineWidth ≤ b) × (recordLimit * exprWidth ≤ c) × (recordLimit * typeWidth ≤ d)
-unfolding shortBy
+pub has-room : (a b c d : ℕ) → shortToParseBy a b c d ≡ false → (recordLimit * tokenWidth ≤ a) × (recordLimit * lineWidth ≤ b) × (recordLimit * exprWidth ≤ c) × (recordLimit * typeWidth ≤ d)
+unfolding shortToParseBy
 has-room a b c d e =
     let x = or-false ((ltb a (recordLimit * tokenWidth) || ltb b (recordLimit * lineWidth)) || ltb c (recordLimit * exprWidth)) (ltb d (recordLimit * typeWidth)) e in
     let y = or-false (ltb a (recordLimit * tokenWidth) || ltb b (recordLimit * lineWidth)) (ltb c (recordLimit * exprWidth)) (x .0) in
@@ -79,19 +79,19 @@ module _ (source table : List ℕ) (room : recordLimit * tokenWidth ≤ length t
 -- ---- the whole
 
 module _ (source jets ts ls es ty : List ℕ) where
-  abbrev old : Tables
+  abbrev old : ParserTables
   old = tables ts ls es ty
 
-  pub too-short : shortBy (length ts) (length ls) (length es) (length ty) ≡ true → (NotLexed ShortTable ≡ parseAll source jets old) × (tables ts ls es ty ≡ tablesAfter source jets old)
+  pub too-short : shortToParseBy (length ts) (length ls) (length es) (length ty) ≡ true → (NotLexed ShortTable ≡ parseAll source jets old) × (tables ts ls es ty ≡ tablesAfter source jets old)
   unfolding parseAll tablesAfter
   too-short e = (rw e, rw e)
 
-  module _ (roomy : shortBy (length ts) (length ls) (length es) (length ty) ≡ false) where
+  module _ (roomy : shortToParseBy (length ts) (length ls) (length es) (length ty) ≡ false) where
     room : (recordLimit * tokenWidth ≤ length ts) × (recordLimit * lineWidth ≤ length ls) × (recordLimit * exprWidth ≤ length es) × (recordLimit * typeWidth ≤ length ty)
     room = has-room (length ts) (length ls) (length es) (length ty) roomy
 
     -- an answer by the lexer's, and the tables by it
-    settled : (a : LexAnswer) (r : ParseAnswer) (new : Tables) → lexAll source ts ≡ a → r ≡ parsedBy source jets a → new ≡ leftBy source jets old a → (r ≡ parseAll source jets old) × (new ≡ tablesAfter source jets old)
+    settled : (a : LexAnswer) (r : ParseAnswer) (new : ParserTables) → lexAll source ts ≡ a → r ≡ parsedBy source jets a → new ≡ leftBy source jets old a → (r ≡ parseAll source jets old) × (new ≡ tablesAfter source jets old)
     unfolding parseAll tablesAfter
     settled a r new e f g = (f ∙ rw (roomy, e), g ∙ rw (roomy, e))
 
@@ -160,7 +160,7 @@ module _ (source jets ts ls es ty : List ℕ) where
           P : Parsed (List Line)
           P = parsing source jets
 
-          go : (P : Parsed (List Line)) → tables (tokensKept P ts') (tableOf lineWidth (lineRows (linesIn P)) ls) (tableOf exprWidth (exprRowsOf (linesIn P)) es) (tableOf typeWidth (typeRowsOf (linesIn P)) ty) ≡ holding (tokensIn all P) (linesIn P) old
+          go : (P : Parsed (List Line)) → tables (tokensKept P ts') (tableOf lineWidth (lineRows (linesIn P)) ls) (tableOf exprWidth (exprRowsOf (linesIn P)) es) (tableOf typeWidth (typeRowsOf (linesIn P)) ty) ≡ holdingLines (tokensIn all P) (linesIn P) old
           go (got us q) = rw table-is
           go (stop z q) = ap (λ (i : List ℕ). tables i (tableOf lineWidth (lineRows []) ls) (tableOf exprWidth (exprRowsOf []) es) (tableOf typeWidth (typeRowsOf []) ty)) (ap (tableOf tokenWidth []) table-is ∙ table-again tokenWidth [] ts (rows-wide all) small)
 

@@ -32,12 +32,12 @@ abbrev pub linesIn : Parsed (List Line) → List Line
 linesIn (got ls rest) = ls
 linesIn (stop x rest) = []
 
-abbrev pub countsOf : List Token → List Line → Counts
-countsOf ts ls = record { tokens = length ts; lines = length ls; exprs = length (linesExprs ls 0); types = length (linesTypes ls 0) }
+abbrev pub countsOfLines : List Token → List Line → Counts
+countsOfLines ts ls = record { tokens = length ts; lines = length ls; exprs = length (linesExprs ls 0); types = length (linesTypes ls 0) }
 
 -- how the parsing of tokens ends; `end` is end of source as a place
 abbrev pub endBy : (end : ℕ) → List Token → Parsed (List Line) → ParseEnd
-endBy end ts (got ls rest) = Lines (countsOf ts ls)
+endBy end ts (got ls rest) = Lines (countsOfLines ts ls)
 endBy end ts (stop x rest) = Refused (refusalAt end x rest)
 
 -- the table of tokens: a refusal sets its records to zero
@@ -48,23 +48,23 @@ tokensKept (stop x rest) table = tableOf tokenWidth [] table
 -- ---- any source, any jet list, any lent tables
 
 -- the four tables
-pub record Tables : Type 0 where
+pub record ParserTables : Type 0 where
   pub tokens : List ℕ
   pub lines : List ℕ
   pub exprs : List ℕ
   pub types : List ℕ
 
-abbrev pub tables : (tokens lines exprs types : List ℕ) → Tables
+abbrev pub tables : (tokens lines exprs types : List ℕ) → ParserTables
 tables ts ls es ty = record { tokens = ts; lines = ls; exprs = es; types = ty }
 
 -- refusal 1: a table has fewer words than 1,024 records
-unfoldable pub shortBy : (tokens lines exprs types : ℕ) → Bool
-shortBy ts ls es ty =
+unfoldable pub shortToParseBy : (tokens lines exprs types : ℕ) → Bool
+shortToParseBy ts ls es ty =
     (((ltb ts (recordLimit * tokenWidth) || ltb ls (recordLimit * lineWidth)) || ltb es (recordLimit * exprWidth))
     || ltb ty (recordLimit * typeWidth))
 
-abbrev pub short : Tables → Bool
-short t = shortBy (length (t .tokens)) (length (t .lines)) (length (t .exprs)) (length (t .types))
+abbrev pub shortToParse : ParserTables → Bool
+shortToParse t = shortToParseBy (length (t .tokens)) (length (t .lines)) (length (t .exprs)) (length (t .types))
 
 -- the lines of the tokens, by the grammar
 abbrev pub parsing : (source jets : List ℕ) → Parsed (List Line)
@@ -76,8 +76,8 @@ tokensIn ts (got ls rest) = ts
 tokensIn ts (stop x rest) = []
 
 -- tables with the records of these tokens and lines, and with no other
-abbrev pub holding : List Token → List Line → Tables → Tables
-holding ts ls old =
+abbrev pub holdingLines : List Token → List Line → ParserTables → ParserTables
+holdingLines ts ls old =
     record {
       tokens = tableOf tokenWidth (rowsOf ts) (old .tokens);
       lines = tableOf lineWidth (lineRows ls) (old .lines);
@@ -104,19 +104,19 @@ parsedBy source jets LongSource = NotLexed LongSource
 parsedBy source jets (NotUtf8 at) = NotLexed (NotUtf8 at)
 
 -- refusal 1 changes no word; 2 to 13 set the records to zero
-abbrev pub leftBy : (source jets : List ℕ) → Tables → LexAnswer → Tables
-leftBy source jets old (Ended (Tokens n)) = holding (tokensIn (lexing source .tokens) (parsing source jets)) (linesIn (parsing source jets)) old
-leftBy source jets old (Ended (NoToken at)) = holding [] [] old
-leftBy source jets old (Ended (TooManyTokens at)) = holding [] [] old
+abbrev pub leftBy : (source jets : List ℕ) → ParserTables → LexAnswer → ParserTables
+leftBy source jets old (Ended (Tokens n)) = holdingLines (tokensIn (lexing source .tokens) (parsing source jets)) (linesIn (parsing source jets)) old
+leftBy source jets old (Ended (NoToken at)) = holdingLines [] [] old
+leftBy source jets old (Ended (TooManyTokens at)) = holdingLines [] [] old
 leftBy source jets old ShortTable = old
-leftBy source jets old LongSource = holding [] [] old
-leftBy source jets old (NotUtf8 at) = holding [] [] old
+leftBy source jets old LongSource = holdingLines [] [] old
+leftBy source jets old (NotUtf8 at) = holdingLines [] [] old
 
-abbrev pub lexAnswer : (source : List ℕ) → Tables → LexAnswer
-lexAnswer source old = if short old then ShortTable else lexAll source (old .tokens)
+abbrev pub lexAnswer : (source : List ℕ) → ParserTables → LexAnswer
+lexAnswer source old = if shortToParse old then ShortTable else lexAll source (old .tokens)
 
-unfoldable pub parseAll : (source jets : List ℕ) → Tables → ParseAnswer
+unfoldable pub parseAll : (source jets : List ℕ) → ParserTables → ParseAnswer
 parseAll source jets old = parsedBy source jets (lexAnswer source old)
 
-unfoldable pub tablesAfter : (source jets : List ℕ) → Tables → Tables
+unfoldable pub tablesAfter : (source jets : List ℕ) → ParserTables → ParserTables
 tablesAfter source jets old = leftBy source jets old (lexAnswer source old)

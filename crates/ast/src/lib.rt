@@ -10,7 +10,7 @@ ghost use Rattle.checks.specs.Checks.{checksOf};
 ghost use Rattle.cursor.specs.Tokens.{tokensLeft};
 ghost use Rattle.grammar.specs.Grammar.{lines as linesOf};
 ghost use Rattle.grammar.specs.Recorded.{lineRows, exprRowsOf, typeRowsOf};
-ghost use Rattle.ast.specs.Parsing.{tables, shortBy, lexedBy, tokensKept, linesIn, endBy, parseAll, tablesAfter};
+ghost use Rattle.ast.specs.Parsing.{tables, shortToParseBy, lexedBy, tokensKept, linesIn, endBy, parseAll, tablesAfter};
 use cursor::Cursor;
 use ends::Counts;
 use ends::ParseAnswer;
@@ -133,7 +133,7 @@ fn tokens_of(answer: LexAnswer) -> Lexed
 
 // Whether a table of so many words is too short for its records.
 fn is_short(tokens: usize, lines: usize, exprs: usize, types: usize) -> bool
-    ensures { λ r. ⌜ r ≡ shortBy tokens lines exprs types ⌝ }
+    ensures { λ r. ⌜ r ≡ shortToParseBy tokens lines exprs types ⌝ }
 {
     (tokens < TOKEN_TABLE) | (lines < LINE_TABLE) | (exprs < EXPR_TABLE) | (types < TYPE_TABLE)
 }

@@ -1,9 +1,9 @@
 // Tests on a token's text: the lengths of literals, exponents, jets.
 ghost use mathlib.Core.Path.{_≡_};
 ghost use mathlib.Core.Bool.{_||_};
-ghost use Prim.Native.Nat.{min, _+_, _-_, _*_, _^_, _≤_, _<_};
+ghost use Prim.Native.Nat.{_+_, _-_, _*_, _^_, _≤_, _<_};
 ghost use lib.ListN.{length, drop};
-ghost use Rattle.records.specs.Refusals.{row as rowWith, rowOf};
+ghost use Rattle.records.specs.Refusals.{refusalRow as rowWith, rowOf};
 ghost use Rattle.checks.specs.Powers.{log2 as logOf, exponentOf};
 ghost use Rattle.checks.specs.Jets.{pieces, isOneOf};
 ghost use Rattle.checks.specs.Code.{exponentCap, capped, isFirst, isBehind, isLater, firstOf, lastOf, blockSize, anyEdged};
@@ -255,17 +255,11 @@ fn is_listed(jets: &[u8], name: &[u8]) -> bool
     is_later(jets, at, jets.len(), name)
 }
 
-fn lesser(a: usize, b: usize) -> usize
-    ensures { λ r. ⌜ r ≡ min a b ⌝ }
-{
-    if a <= b { a } else { b }
-}
-
 // Whether a jet is known, by its token's text.
 pub fn check_jet(jets: &[u8], text: &[u8]) -> Verdict
     ensures { λ r. ⌜ r ≡ jetVerdict (now (jets .entry)) (now (text .entry)) ⌝ }
 {
-    let at = lesser(JET_PREFIX, text.len());
+    let at = tables::lesser(JET_PREFIX, text.len());
     if is_listed(jets, &text[at..]) {
         Verdict::Pass
     } else {
@@ -273,20 +267,13 @@ pub fn check_jet(jets: &[u8], text: &[u8]) -> Verdict
     }
 }
 
-// a less b, but not below 0.
-fn saturating_sub(a: u8, b: u8) -> u8
-    ensures { λ r. ⌜ r ≡ a - b ⌝ }
-{
-    if b <= a { a - b } else { 0 }
-}
-
 // A number with the decimal digit d more, held below the cap.
 fn push_digit(n: usize, d: u8) -> usize
     requires { ⌜ n ≤ exponentCap ⌝ }
     ensures { λ r. ⌜ r ≡ capped (10 * n + (d - 48)) ⌝ }
 {
-    let next = RADIX_10 * n + saturating_sub(d, DIGIT_BASE) as usize;
-    lesser(next, EXPONENT_CAP)
+    let next = RADIX_10 * n + literals::saturating_sub(d, DIGIT_BASE) as usize;
+    tables::lesser(next, EXPONENT_CAP)
 }
 
 // The exponent behind `2^`, which may have any number of digits: its value if that is below the cap.

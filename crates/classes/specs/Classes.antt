@@ -10,26 +10,26 @@ use Rattle.classes.specs.declared.Class.the-variants.{Byte, Bit, Digit, 
 
 -- ---- classes of bytes
 
-abbrev pub from : Char → Char → ℕ → Bool
-from a z b = within (code a) (code z) b
+abbrev pub fromTo : Char → Char → ℕ → Bool
+fromTo a z b = within (code a) (code z) b
 
 abbrev pub is : Char → ℕ → Bool
 is c b = eqb b (code c)
 
 -- a letter or `_ - . '`
 abbrev pub beginsSymbol : ℕ → Bool
-beginsSymbol b = from "a" "z" b || from "A" "Z" b || is "_" b || is "-" b || is "." b || is "'" b
+beginsSymbol b = fromTo "a" "z" b || fromTo "A" "Z" b || is "_" b || is "-" b || is "." b || is "'" b
 
 abbrev pub has : Class → ℕ → Bool
 has (Byte k) b = eqb b k
-has Bit b = from "0" "1" b
-has Digit b = from "0" "9" b
-has NonZero b = from "1" "9" b
-has LowHex b = from "0" "9" b || from "a" "f" b
-has AnyHex b = from "0" "9" b || from "a" "f" b || from "A" "F" b
-has JetPart b = from "a" "z" b || from "0" "9" b || is "_" b
+has Bit b = fromTo "0" "1" b
+has Digit b = fromTo "0" "9" b
+has NonZero b = fromTo "1" "9" b
+has LowHex b = fromTo "0" "9" b || fromTo "a" "f" b
+has AnyHex b = fromTo "0" "9" b || fromTo "a" "f" b || fromTo "A" "F" b
+has JetPart b = fromTo "a" "z" b || fromTo "0" "9" b || is "_" b
 has SymbolFirst b = beginsSymbol b
-has SymbolPart b = beginsSymbol b || from "0" "9" b
+has SymbolPart b = beginsSymbol b || fromTo "0" "9" b
 has Blank b = is " " b || is "\t" b || is "\r" b || is "\n" b
 has NotLf b = not (is "\n" b)
 

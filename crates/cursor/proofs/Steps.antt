@@ -26,8 +26,8 @@ use Rattle.cursor.specs.declared.ParseRefusal.{ParseRefusal}
 use Rattle.cursor.specs.declared.Ahead.{Ahead}
 use Rattle.cursor.specs.declared.Ahead.the-variants.{Next, End}
 use Rattle.cursor.specs.declared.Expected.the-variants.{Passed, Refused}
-use Rattle.cursor.specs.Tokens.{tokenAt, ofKind, tokensLeft}
-use Rattle.cursor.specs.Cursor.{nextNumber, placeOf, refusalAt, stepped, peeked, expected}
+use Rattle.cursor.specs.Tokens.{tokenAt, tokenOfKind, tokensLeft}
+use Rattle.cursor.specs.Cursor.{nextNumber, placeOfLeft, refusalAt, stepped, peeked, expected}
 use Rattle.cursor.proofs.Laws.{text-length, left-none, left-next}
 
 -- a refusal, by its place
@@ -40,10 +40,10 @@ module _ (source tokens : List ℕ) where
   record-is n ek ea el em = rw (text-length, em, ek, ea, el)
 
   module _ (n p : ℕ) where
-    pub place-end : n ≤ p → length source ≡ placeOf (length source) (tokensLeft source tokens n p)
+    pub place-end : n ≤ p → length source ≡ placeOfLeft (length source) (tokensLeft source tokens n p)
     place-end h = rw (left-none source tokens n p h)
 
-    pub place-next : {w : ℕ} → p < n → w ≡ wordAt tokenWidth tokens (p + 1) 1 → w ≡ placeOf (length source) (tokensLeft source tokens n p)
+    pub place-next : {w : ℕ} → p < n → w ≡ wordAt tokenWidth tokens (p + 1) 1 → w ≡ placeOfLeft (length source) (tokensLeft source tokens n p)
     unfolding tokenAt
     place-next h e = rw (left-next source tokens n p h) e
 
@@ -109,5 +109,5 @@ of-two true b = refl
 of-two false true = refl
 of-two false false = refl
 
-pub name-test : (k : TokenKind) → (eqb (k .0) (token.number token.symbol) || eqb (k .0) (token.number token.underscore)) ≡ isOf (ofKind k) names
+pub name-test : (k : TokenKind) → (eqb (k .0) (token.number token.symbol) || eqb (k .0) (token.number token.underscore)) ≡ isOf (tokenOfKind k) names
 name-test k = of-two (eqb (k .0) (token.number token.symbol)) (eqb (k .0) (token.number token.underscore))

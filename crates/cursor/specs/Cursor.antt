@@ -17,12 +17,12 @@ use Rattle.cursor.specs.declared.Expected.{Expected}
 use Rattle.cursor.specs.declared.Expected.the-variants.{Passed, Refused}
 
 -- Document 01: the place of a refusal is the token that is not accepted; end of source as a place is the source's length.
-abbrev pub placeOf : (end : ℕ) → List Token → ℕ
-placeOf end [] = end
-placeOf end (t ∷ ts) = t .start
+abbrev pub placeOfLeft : (end : ℕ) → List Token → ℕ
+placeOfLeft end [] = end
+placeOfLeft end (t ∷ ts) = t .start
 
 abbrev pub refusalAt : (end : ℕ) → Fault → List Token → ParseRefusal
-refusalAt end x ts = record { fault = x; at = record { 0 = placeOf end ts } }
+refusalAt end x ts = record { fault = x; at = record { 0 = placeOfLeft end ts } }
 
 -- the cursor behind one token more
 abbrev pub stepped : Cursor → Cursor

@@ -2,16 +2,11 @@
 use Prim.Native.Nat.{ℕ, zero, suc, _-_}
 use mathlib.Core.List.{List, [], _∷_}
 use Rattle.records.specs.Limits.{tokenWidth}
-use Rattle.records.specs.declared.Span.{Span}
 use Rattle.records.specs.declared.TokenRecord.{TokenRecord}
 use Rattle.records.specs.declared.kinds.TokenKind.{TokenKind}
-use Rattle.tables.specs.Tables.{wordAt}
+use Rattle.tables.specs.Tables.{wordAt, spanAt}
 use Rattle.lex.specs.Tokens.{Token}
 use Rattle.literals.specs.Literals.{spanText}
-
--- the span of the token of this number
-abbrev pub spanAt : (tokens : List ℕ) → (number : ℕ) → Span
-spanAt tokens n = record { start = record { 0 = wordAt tokenWidth tokens n 1 }; len = wordAt tokenWidth tokens n 2 }
 
 -- the token of this number; one that does not lie in the source has no text
 unfoldable pub tokenAt : (source tokens : List ℕ) → (number : ℕ) → Token
@@ -19,7 +14,7 @@ tokenAt source tokens n =
     record {
       kind = record { 0 = wordAt tokenWidth tokens n 0 };
       start = wordAt tokenWidth tokens n 1;
-      text = spanText source (spanAt tokens n);
+      text = spanText source (spanAt tokenWidth tokens n 1);
     }
 
 -- the token of a record
@@ -27,8 +22,8 @@ abbrev pub tokenOf : (source : List ℕ) → TokenRecord → Token
 tokenOf source r = record { kind = r .kind; start = r .span .start .0; text = spanText source (r .span) }
 
 -- a token of this kind
-abbrev pub ofKind : TokenKind → Token
-ofKind k = record { kind = k; start = 0; text = [] }
+abbrev pub tokenOfKind : TokenKind → Token
+tokenOfKind k = record { kind = k; start = 0; text = [] }
 
 -- k tokens, behind the token of number `passed`
 unfoldable pub tokensFrom : (source tokens : List ℕ) → (k passed : ℕ) → List Token

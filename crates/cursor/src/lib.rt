@@ -6,11 +6,11 @@ ghost use Rattle.records.specs.Base.{if_then_else_};
 ghost use lib.ListN.{length};
 ghost use Rattle.records.specs.Limits.{sourceLimit};
 ghost use Rattle.lex.specs.Tokens.{recordOf};
-ghost use Rattle.cursor.specs.Tokens.{tokenAt, ofKind, tokensLeft};
+ghost use Rattle.cursor.specs.Tokens.{tokenAt, tokenOfKind, tokensLeft};
 ghost use Rattle.literals.specs.Literals.{spanText};
 ghost use Rattle.grammar.specs.Rule.{isOf};
 ghost use Rattle.grammar.specs.Grammar.{names};
-ghost use Rattle.cursor.specs.Cursor.{nextNumber, placeOf, refusalAt, peeked, expected};
+ghost use Rattle.cursor.specs.Cursor.{nextNumber, placeOfLeft, refusalAt, peeked, expected};
 use checks::Fault;
 use records::Span;
 use records::TokenRecord;
@@ -97,7 +97,7 @@ pub fn peek(source: &[u8], tokens: &[u32], count: u32, c: Cursor) -> Ahead
 // The Rust's `current_position`: where the next token starts, or the source's length.
 pub fn place(source: &[u8], tokens: &[u32], count: u32, c: Cursor) -> ByteOffset
     requires { ⌜ length (now source) ≤ sourceLimit ⌝ }
-    ensures { λ r. ⌜ r .0 ≡ placeOf (length (now (source .entry))) (tokensLeft (now (source .entry)) (now (tokens .entry)) count (c .token .0)) ⌝ }
+    ensures { λ r. ⌜ r .0 ≡ placeOfLeft (length (now (source .entry))) (tokensLeft (now (source .entry)) (now (tokens .entry)) count (c .token .0)) ⌝ }
 {
     let passed = c.token.0;
     if count <= passed {
@@ -168,7 +168,7 @@ pub fn next_number(number: u32) -> u32
 
 // A name is a symbol or `_`.
 pub fn is_name(kind: TokenKind) -> bool
-    ensures { λ r. ⌜ r ≡ isOf (ofKind kind) names ⌝ }
+    ensures { λ r. ⌜ r ≡ isOf (tokenOfKind kind) names ⌝ }
 {
     let k = kind.0;
     (k == TokenKind::SYMBOL) | (k == TokenKind::UNDERSCORE)

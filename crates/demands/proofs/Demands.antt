@@ -40,7 +40,7 @@ use Rattle.walk.proofs.Basics.{part-number}
 use Rattle.errors.proofs.NoneLost.{none-lost, name-shown}
 use Rattle.access.specs.Roots.{isRoot}
 use Rattle.ends.specs.declared.ReadCounts.{ReadCounts}
-use Rattle.reader.specs.Reading.{Contents, contents, read, refused, byLines, byTokens, byText, reading, countsOf}
+use Rattle.reader.specs.Reading.{Contents, contents, read, refused, byLines, byTokens, byText, reading, countsOfContents}
 use Rattle.reader.proofs.Answers.{counts-held}
 use Rattle.reader.proofs.Fits.{resolved-fit}
 use Rattle.demands.specs.Demands.{linesRead, JudgesAgree, ChildrenBefore, OnLoop, MissingOnLoops, Referred, NoRootLost, Few}
@@ -205,7 +205,7 @@ module _ (source jets : List ℕ) (c : Contents) (e : reading source jets ≡ re
       let ts = lexing source .tokens in
       let a = records-fit (checksOf jets) ts (was .rest) ls (was .parsed) in
       let b = resolved-fit (checksOf jets) ts ls (was .rest) (was .parsed) in
-      let n = ap countsOf (was .held) ∙ counts-held ts ls in
+      let n = ap countsOfContents (was .held) ∙ counts-held ts ls in
       let all : length (c .tokens) ≡ length ts = ap (λ (k : ReadCounts). k .parsed .tokens) n in
       record {
         lines = omega (arith, all, a, line-records ls 0 0, ap (λ (k : ReadCounts). k .parsed .lines) n);

@@ -12,13 +12,13 @@ use Rattle.ends.specs.declared.ReadCounts.{ReadCounts}
 use Rattle.ends.specs.declared.ReadAnswer.{ReadAnswer}
 use Rattle.ends.specs.declared.ReadAnswer.the-variants.{Read, Refused as NotRead}
 
-abbrev pub rowOfEnd : ParseEnd → Refusal
-rowOfEnd (Lines n) = noRow
-rowOfEnd (Refused r) = rowOf (refusedAt (r .at .0) (r .fault))
+abbrev pub rowOfParseEnd : ParseEnd → Refusal
+rowOfParseEnd (Lines n) = noRow
+rowOfParseEnd (Refused r) = rowOf (refusedAt (r .at .0) (r .fault))
 
 abbrev pub rowOfParse : ParseAnswer → Refusal
 rowOfParse (NotLexed a) = rowOfLex a
-rowOfParse (WasParsed e) = rowOfEnd e
+rowOfParse (WasParsed e) = rowOfParseEnd e
 
 abbrev pub noCounts : Counts
 noCounts = record { tokens = 0; lines = 0; exprs = 0; types = 0 }

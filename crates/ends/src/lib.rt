@@ -1,7 +1,7 @@
-// How parsing and reading end: the answers, their rows of the table of refusals, and their counts.
+// How parsing, reading and listing end: the answers, their rows of the table of refusals, and their counts.
 ghost use mathlib.Core.Path.{_≡_};
 ghost use Rattle.records.specs.Refusals.{noRow};
-ghost use Rattle.ends.specs.Rows.{rowOfEnd, rowOfParse, rowOfRead, noCounts, noReadCounts, countsOfEnd, countsOfParse, countsOfRead};
+ghost use Rattle.ends.specs.Rows.{rowOfParseEnd, rowOfParse, rowOfRead, noCounts, noReadCounts, countsOfEnd, countsOfParse, countsOfRead};
 use cursor::ParseRefusal;
 use lex::LexAnswer;
 use records::refusals::Refusal;
@@ -38,6 +38,12 @@ pub struct ReadCounts {
 pub enum ReadAnswer {
     Read(ReadCounts),
     Refused(ParseAnswer),
+}
+
+// The lister's answer: how many bytes of the output the text has, or that there is no room.
+pub enum ListAnswer {
+    Listed(usize),
+    NoRoom,
 }
 
 // The row of what is not refused.
@@ -77,7 +83,7 @@ fn no_read_counts() -> ReadCounts
 impl ParseEnd {
     // The end as a row of the table of refusals,
     fn row(self) -> Refusal
-        ensures { λ r. ⌜ r ≡ rowOfEnd self ⌝ }
+        ensures { λ r. ⌜ r ≡ rowOfParseEnd self ⌝ }
     {
         match self {
             ParseEnd::Lines(_) => no_row(),

@@ -21,7 +21,7 @@ use Rattle.walk.specs.Walk.{Node}
 use Rattle.walk.proofs.Basics.{part-number}
 use Rattle.walk.specs.Nodes.{inDegree, nodeRecord, nodeRecordsFrom, nodeRecords}
 use Rattle.errors.specs.Errors.{nodeError, errorsBy, nodeErrors, HeldNodes, Appends}
-use Rattle.errors.specs.Code.{errorKind, errorAt, countAfter, tableAfter}
+use Rattle.errors.specs.Code.{errorKind, errorOfNode, countAfter, tableAfter}
 
 -- ---- kinds
 
@@ -58,7 +58,7 @@ pub count-more : {k k' r : ℕ} (b : ℕ) → k ≡ k' → ¬ (k ≡ 0) → r �
 unfolding countAfter
 count-more {k' = k'} b e z h = h ∙ rw (ne-eqb k' 0 (λ q. z (e ∙ q)))
 
-pub table-more : {k k' r : ℕ} (nd : List ℕ) (n : ℕ) (rs : List ℕ) (b : ℕ) (x : ErrorRecord) (ws rs' : List ℕ) → k ≡ k' → ¬ (k ≡ 0) → r ≡ nextNumber b → x ≡ errorAt nd n k → ws ≡ errorWords x → rs' ≡ written errorWidth rs r ws
+pub table-more : {k k' r : ℕ} (nd : List ℕ) (n : ℕ) (rs : List ℕ) (b : ℕ) (x : ErrorRecord) (ws rs' : List ℕ) → k ≡ k' → ¬ (k ≡ 0) → r ≡ nextNumber b → x ≡ errorOfNode nd n k → ws ≡ errorWords x → rs' ≡ written errorWidth rs r ws
     → rs' ≡ tableAfter k' nd n rs b
 unfolding tableAfter
 table-more {k' = k'} nd n rs b x ws rs' e z er ex ew h = h ∙ rw (ew, ex, er, ne-eqb k' 0 (λ q. z (e ∙ q)), e)
@@ -117,7 +117,7 @@ abbrev pub Behind : (old : List ℕ) → List Error → (count : ℕ) → (error
 Behind old es b rs = (b ≡ length es) × (rs ≡ tableOf errorWidth (errorRows es) old)
 
 -- one node more, whose words stand in the table
-add-one-node : (nd : List ℕ) (n : ℕ) (x : Node) (es : List Error) (old : List ℕ) → wordAt nodeWidth nd n 0 ≡ node.number (x .kind) → ((k : error.Kind) → errorAt nd n (error.number k) ≡ errorRecord (nodeError k (x .head)))
+add-one-node : (nd : List ℕ) (n : ℕ) (x : Node) (es : List Error) (old : List ℕ) → wordAt nodeWidth nd n 0 ≡ node.number (x .kind) → ((k : error.Kind) → errorOfNode nd n (error.number k) ≡ errorRecord (nodeError k (x .head)))
     → length (es ++ errorsBy (x .kind) (x .head)) ≤ recordLimit → (b : ℕ) (rs : List ℕ) → Behind old es b rs
     → Behind old (es ++ errorsBy (x .kind) (x .head)) (countAfter (errorKind (wordAt nodeWidth nd n 0)) b) (tableAfter (errorKind (wordAt nodeWidth nd n 0)) nd n rs b)
 add-one-node nd n x es old ek ee room b rs h = subst (λ (w : ℕ). Behind old (es ++ errorsBy (x .kind) (x .head)) (countAfter (errorKind w) b) (tableAfter (errorKind w) nd n rs b)) (sym ek) (go (x .kind) room)
@@ -128,8 +128,8 @@ add-one-node nd n x es old ek ee room b rs h = subst (λ (w : ℕ). Behind old (
     wrong k w e z r =
         let few : length es < recordLimit = omega (arith, r, length-append es (nodeError k (x .head) ∷ [])) in (
           sym (count-more b e z refl) ∙ ap nextNumber (h .0) ∙ sym (next-below few) ∙ sym (length-append es (nodeError k (x .head) ∷ [])),
-          sym (table-more nd n rs b (errorAt nd n (error.number k)) _ _ e z refl refl refl refl)
-              ∙ ap₂ (λ (t : List ℕ) (i : ℕ). written errorWidth t (nextNumber i) (errorWords (errorAt nd n (error.number k)))) (h .1) (h .0)
+          sym (table-more nd n rs b (errorOfNode nd n (error.number k)) _ _ e z refl refl refl refl)
+              ∙ ap₂ (λ (t : List ℕ) (i : ℕ). written errorWidth t (nextNumber i) (errorWords (errorOfNode nd n (error.number k)))) (h .1) (h .0)
               ∙ ap (λ (y : ErrorRecord). written errorWidth (tableOf errorWidth (errorRows es) old) (nextNumber (length es)) (errorWords y)) (ee k)
               ∙ append-one es (nodeError k (x .head)) old few,
         )

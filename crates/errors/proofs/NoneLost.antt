@@ -20,8 +20,8 @@ use Rattle.grammar.specs.Places.{Each}
 use Rattle.names.specs.Names.{namesOf, firstExpression}
 use Rattle.names.specs.Uses.{In}
 use Rattle.names.proofs.Reading.{number-some}
-use Rattle.walk.specs.Walk.{Head, Tree, none, part, refer, Node, finished, Legal}
-use Rattle.walk.specs.Trees.{recordNo, numbered, outermost, treeBy, treeOf}
+use Rattle.walk.specs.Walk.{NodeHead, Tree, none, part, refer, Node, finished, Legal}
+use Rattle.walk.specs.Trees.{recordNo, treeOfPart, outermost, treeBy, treeOf}
 use Rattle.walk.specs.Nodes.{walked, nodesOf, oneIf, inDegree}
 use Rattle.walk.specs.Stands.{PartOf, Points, StandsFor, Stands}
 use Rattle.walk.proofs.Numbered.{same-record, record-bounds, record-at}
@@ -42,8 +42,8 @@ Inside none = Unit {0}
 Inside (part k h l r) = Unnamed l × Unnamed r
 Inside (refer h m) = Unit {0}
 
-numbered-unnamed : (ns : List Token) (p : Part) → Unnamed (numbered ns p)
-unfolding Unnamed numbered
+numbered-unnamed : (ns : List Token) (p : Part) → Unnamed (treeOfPart ns p)
+unfolding Unnamed treeOfPart
 numbered-unnamed ns part.none = tt
 numbered-unnamed ns (part.part k at s l r) = (refl, numbered-unnamed ns l, numbered-unnamed ns r)
 numbered-unnamed ns (part.refer x) = refl
@@ -53,10 +53,10 @@ unfolding treeBy
 tree-inside ns n x no = unfold Inside Unnamed in (tt, tt)
 tree-inside ns n x (some e) = go (partOf e)
   where
-    go : (p : Part) → Inside (outermost n x (numbered ns p))
-    go part.none = unfold Inside numbered outermost in tt
-    go (part.part k at s l r) = unfold Inside numbered outermost in (numbered-unnamed ns l, numbered-unnamed ns r)
-    go (part.refer y) = unfold Inside numbered outermost in tt
+    go : (p : Part) → Inside (outermost n x (treeOfPart ns p))
+    go part.none = unfold Inside treeOfPart outermost in tt
+    go (part.part k at s l r) = unfold Inside treeOfPart outermost in (numbered-unnamed ns l, numbered-unnamed ns r)
+    go (part.refer y) = unfold Inside treeOfPart outermost in tt
 
 unnamed-part : (t u : Tree) → Unnamed u → PartOf t u → Unnamed t
 unfolding Unnamed PartOf
@@ -86,19 +86,19 @@ inside-part t (refer g m) h e = subst Inside (sym e) h
 unnamed-node : (xs : List Node) (c : ℕ) (t : Tree) (y : Node) → recordNo xs c ≡ some y → Unnamed t → Points xs c t → y .head .name ≡ 0
 unfolding Unnamed
 unnamed-node xs c none y e h p = absurd (omega (arith, p, record-bounds xs c y e))
-unnamed-node xs c (part k g l r) y e h p = ap (λ (x : Node). x .head .name) (same-record (recordNo xs c) y (p .0) e (p .1)) ∙ ap (λ (f : Head). f .name) (p .2) ∙ h .0
-unnamed-node xs c (refer g m) y e h p = ap (λ (x : Node). x .head .name) (same-record (recordNo xs c) y (p .0) e (p .1)) ∙ ap (λ (f : Head). f .name) (p .2) ∙ h
+unnamed-node xs c (part k g l r) y e h p = ap (λ (x : Node). x .head .name) (same-record (recordNo xs c) y (p .0) e (p .1)) ∙ ap (λ (f : NodeHead). f .name) (p .2) ∙ h .0
+unnamed-node xs c (refer g m) y e h p = ap (λ (x : Node). x .head .name) (same-record (recordNo xs c) y (p .0) e (p .1)) ∙ ap (λ (f : NodeHead). f .name) (p .2) ∙ h
 
 -- the node of a name carries its number
 named-node : (xs : List Node) (c : ℕ) (ns : List Token) (n : ℕ) (x : Token) (o : Option Expr) → Points xs c (treeBy ns n x o) → (y : Node) × (recordNo xs c ≡ some y) × (y .head .name ≡ n)
 unfolding treeBy
-named-node xs c ns n x no p = (p .0, p .1, ap (λ (f : Head). f .name) (p .2))
+named-node xs c ns n x no p = (p .0, p .1, ap (λ (f : NodeHead). f .name) (p .2))
 named-node xs c ns n x (some e) p = go (partOf e) (number-some e 0) p
   where
-    go : (q : Part) → 1 ≤ partNo q 0 → Points xs c (outermost n x (numbered ns q)) → (y : Node) × (recordNo xs c ≡ some y) × (y .head .name ≡ n)
+    go : (q : Part) → 1 ≤ partNo q 0 → Points xs c (outermost n x (treeOfPart ns q)) → (y : Node) × (recordNo xs c ≡ some y) × (y .head .name ≡ n)
     go part.none h p = absurd (omega (arith, h))
-    go (part.part k at s l r) h p = unfold numbered outermost in (p .0, p .1, ap (λ (f : Head). f .name) (p .2))
-    go (part.refer z) h p = unfold numbered outermost in (p .0, p .1, ap (λ (f : Head). f .name) (p .2))
+    go (part.part k at s l r) h p = unfold treeOfPart outermost in (p .0, p .1, ap (λ (f : NodeHead). f .name) (p .2))
+    go (part.refer z) h p = unfold treeOfPart outermost in (p .0, p .1, ap (λ (f : NodeHead). f .name) (p .2))
 
 -- ---- in-degrees
 

@@ -28,8 +28,8 @@ use Rattle.grammar.proofs.Places.{Made, none, refer, own, behind, before, LineM
 use Rattle.names.specs.Names.{Error, namesOf, firstExpression, errorsOf}
 use Rattle.names.proofs.Reading.{number-some}
 use Rattle.walk.specs.Walk as walk
-use Rattle.walk.specs.Walk.{Head, Own, Tree, Node, Status, fresh, begun, finished, resolve}
-use Rattle.walk.specs.Trees.{head, recordNo, numbered, outermost, treeBy}
+use Rattle.walk.specs.Walk.{NodeHead, Own, Tree, Node, Status, fresh, begun, finished, resolve}
+use Rattle.walk.specs.Trees.{head, recordNo, treeOfPart, outermost, treeBy}
 use Rattle.walk.specs.Nodes.{nodesOf}
 use Rattle.walk.specs.Machine.{nodeOf}
 use Rattle.walk.specs.Stands.{sum}
@@ -52,7 +52,7 @@ module _ (w : Span → ℕ) where
   referencesWeigh (part.refer x) = w (spanOf x)
 
   -- a part that is no reference and not incomplete weighs nothing itself
-  abbrev ownWeighs : Own → Head → ℕ
+  abbrev ownWeighs : Own → NodeHead → ℕ
   ownWeighs walk.noexpr h = w (h .span)
   ownWeighs (walk.of k) h = 0
 
@@ -61,7 +61,7 @@ module _ (w : Span → ℕ) where
   treeWeighs (walk.part k h l r) = ownWeighs k h + (treeWeighs l + treeWeighs r)
   treeWeighs (walk.refer h n) = w (h .span)
 
-  abbrev kindWeighs : node.Kind → Head → ℕ
+  abbrev kindWeighs : node.Kind → NodeHead → ℕ
   kindWeighs node.missing h = w (h .span)
   kindWeighs node.noexpr h = w (h .span)
   kindWeighs node.ref h = w (h .span)
@@ -74,11 +74,11 @@ module _ (w : Span → ℕ) where
   unfolding treeWeighs
   nodes-as-trees = record { absent = refl; own = by; used = λ h n v. same h v }
     where
-      by : (k : Own) (h : Head) (l r : Tree) (a b : ℕ) → ownWeighs k h + (treeWeighs l + treeWeighs r) ≡ nodeWeighs (nodeOf k h a b) + (treeWeighs l + treeWeighs r)
+      by : (k : Own) (h : NodeHead) (l r : Tree) (a b : ℕ) → ownWeighs k h + (treeWeighs l + treeWeighs r) ≡ nodeWeighs (nodeOf k h a b) + (treeWeighs l + treeWeighs r)
       by walk.noexpr h l r a b = refl
       by (walk.of k) h l r a b = refl
 
-      same : (h : Head) (v : Status) → w (h .span) ≡ nodeWeighs (resolve h v)
+      same : (h : NodeHead) (v : Status) → w (h .span) ≡ nodeWeighs (resolve h v)
       same h fresh = refl
       same h begun = refl
       same h (finished i) = refl
@@ -89,7 +89,7 @@ module _ (w : Span → ℕ) where
 
   -- ---- the errors of nodes weigh no more than the nodes
 
-  kind-errors : (k : node.Kind) (h : Head) → errorsWeigh (errorsBy k h) ≤ kindWeighs k h
+  kind-errors : (k : node.Kind) (h : NodeHead) → errorsWeigh (errorsBy k h) ≤ kindWeighs k h
   unfolding sum
   kind-errors node.missing h = omega arith
   kind-errors node.noexpr h = omega arith
@@ -165,20 +165,20 @@ module _ (f : ℕ → ℕ) (z : f 0 ≡ 0) where
   unfolding numbersWeigh
   numbers-as-trees = record { absent = refl; own = λ k h l r a b. refl; used = λ h n v. same h v }
     where
-      same : (h : Head) (v : Status) → f (h .name) ≡ f (resolve h v .head .name)
+      same : (h : NodeHead) (v : Status) → f (h .name) ≡ f (resolve h v .head .name)
       same h fresh = refl
       same h begun = refl
       same h (finished i) = refl
 
   -- inside a tree there is none
-  inside-none : (ns : List Token) (p : Part) → numbersWeigh (numbered ns p) ≡ 0
-  unfolding numbersWeigh numbered
+  inside-none : (ns : List Token) (p : Part) → numbersWeigh (treeOfPart ns p) ≡ 0
+  unfolding numbersWeigh treeOfPart
   inside-none ns part.none = refl
   inside-none ns (part.part k at s l r) = omega (arith, z, inside-none ns l, inside-none ns r)
   inside-none ns (part.refer x) = z
 
-  outermost-one : (ns : List Token) (n : ℕ) (x : Token) (p : Part) → 0 < partNo p 0 → numbersWeigh (outermost n x (numbered ns p)) ≡ f n
-  unfolding numbersWeigh numbered outermost
+  outermost-one : (ns : List Token) (n : ℕ) (x : Token) (p : Part) → 0 < partNo p 0 → numbersWeigh (outermost n x (treeOfPart ns p)) ≡ f n
+  unfolding numbersWeigh treeOfPart outermost
   outermost-one ns n x part.none h = absurd (omega arith)
   outermost-one ns n x (part.part k at s l r) h = omega (arith, inside-none ns l, inside-none ns r)
   outermost-one ns n x (part.refer y) h = refl

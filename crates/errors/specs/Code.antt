@@ -9,9 +9,8 @@ use Rattle.records.specs.Records.{errorWords}
 use Rattle.records.specs.NodeKind as node
 use Rattle.records.specs.ErrorKind as error
 use Rattle.records.specs.declared.ErrorRecord.{ErrorRecord}
-use Rattle.tables.specs.Tables.{wordAt, written}
+use Rattle.tables.specs.Tables.{wordAt, written, spanAt}
 use Rattle.cursor.specs.Cursor.{nextNumber}
-use Rattle.symbols.specs.Texts.{spanAt}
 
 -- the number of the error that a node of this number of kind gives; 0 if none
 unfoldable pub errorKind : (kind : ℕ) → ℕ
@@ -21,8 +20,8 @@ errorKind k =
     else 0
 
 -- the error of this kind at the node n
-abbrev pub errorAt : (nodes : List ℕ) → (n kind : ℕ) → ErrorRecord
-errorAt nd n k =
+abbrev pub errorOfNode : (nodes : List ℕ) → (n kind : ℕ) → ErrorRecord
+errorOfNode nd n k =
     record { kind = record { 0 = k }; start = record { 0 = wordAt nodeWidth nd n 1 }; name = spanAt nodeWidth nd n 5 }
 
 -- how many errors there are after one of this kind; 0 is none
@@ -31,4 +30,4 @@ countAfter k b = if eqb k 0 then b else nextNumber b
 
 -- the table after an error of this kind at the node n
 unfoldable pub tableAfter : (kind : ℕ) → (nodes : List ℕ) → (n : ℕ) → (errors : List ℕ) → (before : ℕ) → List ℕ
-tableAfter k nd n rs b = if eqb k 0 then rs else written errorWidth rs (nextNumber b) (errorWords (errorAt nd n k))
+tableAfter k nd n rs b = if eqb k 0 then rs else written errorWidth rs (nextNumber b) (errorWords (errorOfNode nd n k))

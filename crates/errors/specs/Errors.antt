@@ -10,15 +10,15 @@ use Rattle.records.specs.ErrorKind as error
 use Rattle.tables.specs.Tables.{tableOf}
 use Rattle.grammar.specs.Tree.{Line}
 use Rattle.names.specs.Names.{Error, errorsOf, errorRows}
-use Rattle.walk.specs.Walk.{Head, Node}
+use Rattle.walk.specs.Walk.{NodeHead, Node}
 use Rattle.walk.specs.Nodes.{nodesOf, nodeRows}
 
 -- an error at a node's start; its name is that node's span
-abbrev pub nodeError : error.Kind → Head → Error
+abbrev pub nodeError : error.Kind → NodeHead → Error
 nodeError k h = record { kind = k; start = h .start; name = h .span }
 
 -- one missing or incomplete error for each such node
-abbrev pub errorsBy : node.Kind → Head → List Error
+abbrev pub errorsBy : node.Kind → NodeHead → List Error
 errorsBy node.missing h = nodeError error.missing h ∷ []
 errorsBy node.noexpr h = nodeError error.incomplete h ∷ []
 errorsBy node.ref h = []

@@ -3,7 +3,7 @@ ghost use mathlib.Core.Path.{_≡_};
 ghost use Rattle.records.specs.Limits.{nodeWidth};
 ghost use Rattle.tables.specs.Tables.{wordAt};
 ghost use Rattle.errors.specs.Errors.{Appends};
-ghost use Rattle.errors.specs.Code.{errorKind, errorAt, countAfter, tableAfter};
+ghost use Rattle.errors.specs.Code.{errorKind, errorOfNode, countAfter, tableAfter};
 use records::ErrorRecord;
 use records::NodeRecord;
 use records::Span;
@@ -27,7 +27,7 @@ fn error_kind(kind: u32) -> u32
 
 // An error of this kind at a node's start; its name is that node's span.
 fn error_at(nodes: &[u32], number: NodeNo, kind: ErrorKind) -> ErrorRecord
-    ensures { λ r. ⌜ r ≡ errorAt (now (nodes .entry)) (number .0) (kind .0) ⌝ }
+    ensures { λ r. ⌜ r ≡ errorOfNode (now (nodes .entry)) (number .0) (kind .0) ⌝ }
 {
     let n = number.0;
     ErrorRecord {

@@ -7,12 +7,12 @@ use Rattle.records.specs.Base.{if_then_else_, bytes}
 use Rattle.records.specs.Limits.{depthLimit}
 use Rattle.records.specs.TokenKind as token
 use Rattle.records.specs.Refusals as refusals
-use Rattle.records.specs.Refusals.{Refused, row}
+use Rattle.records.specs.Refusals.{Refused, refusalRow}
 use Rattle.records.specs.declared.refusals.Refusal.{Refusal}
 use Rattle.records.specs.declared.TokenRecord.{TokenRecord}
 use Rattle.lex.specs.Tokens.{recordOf, lexing}
 use Rattle.checks.specs.Checks.{refusedAt, checksOf}
-use Rattle.cursor.specs.Cursor.{placeOf}
+use Rattle.cursor.specs.Cursor.{placeOfLeft}
 use Rattle.grammar.specs.Tree as tree
 use Rattle.grammar.specs.Tree.{Ty, present}
 use Rattle.grammar.specs.Rule.{Parsed, got, stop}
@@ -41,7 +41,7 @@ pub data Answer : Type 0 where
 
 abbrev typeAnswer : Parsed Ty → Answer
 typeAnswer (got t rest) = if present t then aType t else absentType
-typeAnswer (stop x rest) = refusedType (refusedAt (placeOf 0 rest) x)
+typeAnswer (stop x rest) = refusedType (refusedAt (placeOfLeft 0 rest) x)
 
 -- the answer, with an empty jet list
 unfoldable pub answer : Question → Answer
@@ -52,8 +52,8 @@ answer (countsOf s) = counts (countsOfReading (reading (bytes s) []))
 answer (sheetOf s) = sheet (listing (bytes s) (reading (bytes s) []))
 
 -- a token's record
-abbrev tokenAt : token.Kind → (start len : ℕ) → TokenRecord
-tokenAt k a n = record { kind = record { 0 = token.number k }; span = record { start = record { 0 = a }; len = n } }
+abbrev tokenRecordAt : token.Kind → (start len : ℕ) → TokenRecord
+tokenRecordAt k a n = record { kind = record { 0 = token.number k }; span = record { start = record { 0 = a }; len = n } }
 
 abbrev none : ReadCounts
 none = record { parsed = record { tokens = 0; lines = 0; exprs = 0; types = 0 }; names = 0; nodes = 0; errors = 0 }
@@ -69,11 +69,11 @@ example n q a = record { name = n; question = q; expected = a }
 abbrev pub examples : List Example
 examples =
     example "P1" (countsOf "") (counts none)
-    ∷ example "P2" (refusalOf "a->b") (refusal (row 4 2 0))
-    ∷ example "P3" (tokensOf "a--b") (tokens (tokenAt token.symbol 0 4 ∷ []))
+    ∷ example "P2" (refusalOf "a->b") (refusal (refusalRow 4 2 0))
+    ∷ example "P3" (tokensOf "a--b") (tokens (tokenRecordAt token.symbol 0 4 ∷ []))
     ∷ example "P3" (tokensOf "--b") (tokens [])
-    ∷ example "P4" (tokensOf "jet_A") (tokens (tokenAt token.symbol 0 5 ∷ []))
-    ∷ example "P5" (refusalOf "2^0") (refusal (row 4 1 0))
+    ∷ example "P4" (tokensOf "jet_A") (tokens (tokenRecordAt token.symbol 0 5 ∷ []))
+    ∷ example "P5" (refusalOf "2^0") (refusal (refusalRow 4 1 0))
     ∷ example "P6" (typeOf "1+2*2") (aType (tree.op tree.product (tree.op tree.sum tree.one tree.two) tree.two))
     ∷ example "P7" (typeOf "1+_") absentType
     ∷ example "P8" (typeOf "2^3") (refusedType (refusals.badPower 0 3))

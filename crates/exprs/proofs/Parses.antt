@@ -45,7 +45,7 @@ use Rattle.exprs.specs.declared.CmrHead.the-variants.{Brace, Literal as 
 use Rattle.exprs.specs.declared.Complete.{Complete}
 use Rattle.exprs.specs.declared.Complete.the-variants.{Inner}
 use Rattle.heads.specs.Answers.{HeadReads}
-use Rattle.exprs.specs.Answers.{ExprReads, CmrReads, cmrHeadBy, closed, closedCmr, unaryBy, binaryBy, assertLBy, assertRBy, completed, completedTable, TwoReads}
+use Rattle.exprs.specs.Answers.{ExprReads, CmrReads, cmrHeadBy, closedExpr, closedCmr, unaryBy, binaryBy, assertLBy, assertRBy, completed, completedTable, TwoReads}
 use Rattle.exprs.proofs.Trees.{expr-read, expr-stopped, cmr-read, cmr-stopped, reads-after, leaf-reads, unary-reads, binary-reads, left-reads, right-reads, parens-reads, braces-reads}
 
 -- one depth less for the parts
@@ -194,7 +194,7 @@ module _ (s jets t : List ℕ) (n : ℕ) (c : Cursor) where
         let x = begins h (NoHead y) ready w e in
         up (Refused y) old old (subst (λ (Q : Parsed Head). ExprReads s t n c (goOn Q (exprBy checks D)) (Refused y) old old) (sym (x .2)) (ap Refused (x .3), refl))
 
-    pub expr-parens : (h : ExprHead) (d : Cursor) (p r : ExprAnswer) (old new : List ℕ) → (Ready n c → HeadReads s t n c (head checks ts) h) → h ≡ Parens d → (Ready n d → ExprReads s t n d (D (tokensLeft s t n (d .token .0))) p old new) → r ≡ closed s t n p
+    pub expr-parens : (h : ExprHead) (d : Cursor) (p r : ExprAnswer) (old new : List ℕ) → (Ready n c → HeadReads s t n c (head checks ts) h) → h ≡ Parens d → (Ready n d → ExprReads s t n d (D (tokensLeft s t n (d .token .0))) p old new) → r ≡ closedExpr s t n p
         → Ready n c → ExprReads s t n c (expr checks depth ts) r old new
     unfolding HeadReads exprBy
     expr-parens h d p r old new w e k f ready =

@@ -38,8 +38,8 @@ use Rattle.exprs.specs.declared.CmrAnswer.the-variants.{Read as ReadCmr,
 use Rattle.exprs.specs.declared.CmrHead.the-variants.{Brace, Literal as LiteralHead, Refused as NoCmrHead}
 use Rattle.exprs.specs.declared.Complete.{Complete}
 use Rattle.exprs.specs.declared.Complete.the-variants.{Inner, Refused as Incomplete}
-use Rattle.heads.specs.Answers.{recordBy}
-use Rattle.exprs.specs.Answers.{cmrHeadBy, closed, closedCmr, unaryBy, binaryBy, assertLBy, assertRBy, completed, completedTable}
+use Rattle.heads.specs.Answers.{exprRecordBy}
+use Rattle.exprs.specs.Answers.{cmrHeadBy, closedExpr, closedCmr, unaryBy, binaryBy, assertLBy, assertRBy, completed, completedTable}
 
 -- ---- a complete expression
 
@@ -48,10 +48,10 @@ module _ {p : Complete} where
   unfolding completed
   finish-answer e f = rw (e, f)
 
-  pub finish-table : {i : ExprInner} {c : Cursor} {m : ℕ} (at : ByteOffset) {r : ExprRecord} {ws new : List ℕ} (old : List ℕ) → p ≡ Inner i c → m ≡ nextNumber (c .expr .0) → r ≡ recordBy i at → ws ≡ exprWords r → new ≡ written exprWidth old m ws → new ≡ completedTable at p old
+  pub finish-table : {i : ExprInner} {c : Cursor} {m : ℕ} (at : ByteOffset) {r : ExprRecord} {ws new : List ℕ} (old : List ℕ) → p ≡ Inner i c → m ≡ nextNumber (c .expr .0) → r ≡ exprRecordBy i at → ws ≡ exprWords r → new ≡ written exprWidth old m ws → new ≡ completedTable at p old
   unfolding completedTable
   finish-table {i} {c} {m} at old e f g h k =
-      k ∙ ap (written exprWidth old m) (h ∙ ap exprWords g) ∙ ap (λ (n : ℕ). written exprWidth old n (exprWords (recordBy i at))) f ∙ ap (λ (q : Complete). completedTable at q old) (sym e)
+      k ∙ ap (written exprWidth old m) (h ∙ ap exprWords g) ∙ ap (λ (n : ℕ). written exprWidth old n (exprWords (exprRecordBy i at))) f ∙ ap (λ (q : Complete). completedTable at q old) (sym e)
 
   pub refused-answer : {x : ParseRefusal} → p ≡ Incomplete x → Refused x ≡ completed p
   unfolding completed
@@ -89,16 +89,16 @@ module _ {p : ExprAnswer} where
   right-refused k h = rw h
 
   module _ (s t : List ℕ) (n : ℕ) where
-    pub close-passed : {e : ExprNo} {c d : Cursor} {x : Expected} → p ≡ Read e c → x ≡ expected (length s) c (token.number token.rparen) (tokensLeft s t n (c .token .0)) → x ≡ Passed d → Read e d ≡ closed s t n p
-    unfolding closed
+    pub close-passed : {e : ExprNo} {c d : Cursor} {x : Expected} → p ≡ Read e c → x ≡ expected (length s) c (token.number token.rparen) (tokensLeft s t n (c .token .0)) → x ≡ Passed d → Read e d ≡ closedExpr s t n p
+    unfolding closedExpr
     close-passed h f g = rw (h, ← f, g)
 
-    pub close-other : {e : ExprNo} {c : Cursor} {y : ParseRefusal} {x : Expected} → p ≡ Read e c → x ≡ expected (length s) c (token.number token.rparen) (tokensLeft s t n (c .token .0)) → x ≡ NotPassed y → Refused y ≡ closed s t n p
-    unfolding closed
+    pub close-other : {e : ExprNo} {c : Cursor} {y : ParseRefusal} {x : Expected} → p ≡ Read e c → x ≡ expected (length s) c (token.number token.rparen) (tokensLeft s t n (c .token .0)) → x ≡ NotPassed y → Refused y ≡ closedExpr s t n p
+    unfolding closedExpr
     close-other h f g = rw (h, ← f, g)
 
-    pub close-refused : {y : ParseRefusal} → p ≡ Refused y → Refused y ≡ closed s t n p
-    unfolding closed
+    pub close-refused : {y : ParseRefusal} → p ≡ Refused y → Refused y ≡ closedExpr s t n p
+    unfolding closedExpr
     close-refused h = rw h
 
     pub brace-passed : {e : ExprNo} {c d : Cursor} {x : Expected} → p ≡ Read e c → x ≡ expected (length s) c (token.number token.rbrace) (tokensLeft s t n (c .token .0)) → x ≡ Passed d → ReadCmr (OfExpr e) d ≡ closedCmr s t n p

@@ -6,7 +6,7 @@ use native.Mathlib.Omega.{arith}
 use native.Mathlib.Nat.{add-zero}
 use lib.ListN.{length, length-append, length-map}
 use Rattle.records.specs.Limits.{exprWidth}
-use Rattle.records.specs.Records.{exprWords}
+use Rattle.records.specs.Records.{noSpan, exprWords}
 use Rattle.records.specs.TokenKind as token
 use Rattle.records.specs.NodeKind as node
 use Rattle.records.specs.declared.Span.{Span}
@@ -28,7 +28,7 @@ use Rattle.grammar.specs.Tree as tree
 use Rattle.grammar.specs.Tree.{Expr}
 use Rattle.grammar.specs.Rule.{Parsed, got, stop, goOn, expect}
 use Rattle.grammar.specs.Part as part
-use Rattle.grammar.specs.Part.{Part, partOf, cmrPart, cmrSpan, weight, unaryKind, binaryKind, noSpan}
+use Rattle.grammar.specs.Part.{Part, partOf, cmrPart, cmrSpan, weight, unaryKind, binaryKind}
 use Rattle.grammar.specs.Recorded.{partNo, exprRecord, exprRecords}
 use Rattle.grammar.proofs.Takes.{expr-records}
 use Rattle.heads.specs.declared.Cmr.{Cmr}
@@ -39,8 +39,8 @@ use Rattle.exprs.specs.declared.ExprAnswer.the-variants.{Read, Refused}
 use Rattle.exprs.specs.declared.CmrAnswer.{CmrAnswer}
 use Rattle.exprs.specs.declared.CmrAnswer.the-variants.{Read as ReadCmr, Refused as NoCmr}
 use Rattle.exprs.specs.declared.Complete.the-variants.{Inner, Refused as Incomplete}
-use Rattle.heads.specs.Answers.{recordBy, Leaf, ofPart}
-use Rattle.exprs.specs.Answers.{exprRows, ExprReads, cmrBy, CmrReads, closed, closedCmr, unaryBy, binaryBy, assertLBy, assertRBy, completed, completedTable}
+use Rattle.heads.specs.Answers.{exprRecordBy, LeafExpr, ofPart}
+use Rattle.exprs.specs.Answers.{exprRows, ExprReads, cmrBy, CmrReads, closedExpr, closedCmr, unaryBy, binaryBy, assertLBy, assertRBy, completed, completedTable}
 
 -- ---- rows
 
@@ -63,12 +63,12 @@ rows-stay : (p : Part) (m : ℕ) (old : List ℕ) {new : List ℕ} → new ≡ f
 rows-stay p m old e = ap (beyond exprWidth) e ∙ filled-beyond exprWidth old m (exprRows p m)
 
 -- the record of an assertion, by its CMR
-left-record : (k : tree.Cmr) (at : ByteOffset) (e : ExprNo) (m : ℕ) → recordBy (AssertL e (cmrBy k m)) at ≡ exprRecord (node.part node.assertl) (at .0) (e .0) (partNo (cmrPart k) m) (cmrSpan k)
+left-record : (k : tree.Cmr) (at : ByteOffset) (e : ExprNo) (m : ℕ) → exprRecordBy (AssertL e (cmrBy k m)) at ≡ exprRecord (node.part node.assertl) (at .0) (e .0) (partNo (cmrPart k) m) (cmrSpan k)
 unfolding partOf
 left-record (tree.inside f) at e m = refl
 left-record (tree.literal u) at e m = refl
 
-right-record : (k : tree.Cmr) (at : ByteOffset) (e : ExprNo) (m : ℕ) → recordBy (AssertR (cmrBy k m) e) at ≡ exprRecord (node.part node.assertr) (at .0) (partNo (cmrPart k) m) (e .0) (cmrSpan k)
+right-record : (k : tree.Cmr) (at : ByteOffset) (e : ExprNo) (m : ℕ) → exprRecordBy (AssertR (cmrBy k m) e) at ≡ exprRecord (node.part node.assertr) (at .0) (partNo (cmrPart k) m) (e .0) (cmrSpan k)
 unfolding partOf
 right-record (tree.inside f) at e m = refl
 right-record (tree.literal u) at e m = refl
@@ -146,14 +146,14 @@ module _ (s t : List ℕ) (n : ℕ) where
     -- ---- a complete expression, of w records before its own
 
     finish-reads : (e : Expr) (i : ExprInner) (at : ByteOffset) (w : ℕ) (rs : List (List ℕ)) (f : Cursor) (rest : List Token) {r : ExprAnswer} (old : List ℕ) {mid new : List ℕ} → weight (partOf e) ≡ suc w → partNo (partOf e) m ≡ m + suc w
-        → exprRows (partOf e) m ≡ rs ++ (exprWords (recordBy i at) ∷ []) → length rs ≡ w → Reached s t n c f rest w 0 → suc w + c .token .0 ≤ f .token .0 → mid ≡ filled exprWidth old m rs → r ≡ completed (Inner i f)
+        → exprRows (partOf e) m ≡ rs ++ (exprWords (exprRecordBy i at) ∷ []) → length rs ≡ w → Reached s t n c f rest w 0 → suc w + c .token .0 ≤ f .token .0 → mid ≡ filled exprWidth old m rs → r ≡ completed (Inner i f)
         → new ≡ completedTable at (Inner i f) mid → ExprReads s t n c (got e rest) r old new
     unfolding ExprReads completed completedTable
     finish-reads e i at w rs f rest old {mid} {new} weighs numbered rows len to room is-mid is-r is-new =
         let next : nextNumber (f .expr .0) ≡ m + w + 1 = sym (next-below (omega (arith, to .exprs, room, to .inside, ready .exprs, ready .few))) ∙ omega (arith, to .exprs) in
         let number : nextNumber (f .expr .0) ≡ partNo (partOf e) m = next ∙ omega (arith, numbered) in
         let d : Cursor = record { token = f .token; expr = record { 0 = nextNumber (f .expr .0) }; ty = f .ty } in
-        let last : new ≡ filled exprWidth mid (m + w) (exprWords (recordBy i at) ∷ []) = is-new ∙ ap (λ (k : ℕ). written exprWidth mid k (exprWords (recordBy i at))) next ∙ sym (filled-one exprWidth mid (m + w) (exprWords (recordBy i at))) in (
+        let last : new ≡ filled exprWidth mid (m + w) (exprWords (exprRecordBy i at) ∷ []) = is-new ∙ ap (λ (k : ℕ). written exprWidth mid k (exprWords (exprRecordBy i at))) next ∙ sym (filled-one exprWidth mid (m + w) (exprWords (exprRecordBy i at))) in (
           d,
           is-r ∙ ap (λ (k : ℕ). Read (record { 0 = k }) d) number,
           record {
@@ -163,24 +163,24 @@ module _ (s t : List ℕ) (n : ℕ) where
             types = to .types;
             room = (omega (arith, weighs, room), to .room .1);
           },
-          filled-then exprWidth old m rs (exprWords (recordBy i at) ∷ []) len is-mid last ∙ ap (filled exprWidth old m) (sym rows),
+          filled-then exprWidth old m rs (exprWords (exprRecordBy i at) ∷ []) len is-mid last ∙ ap (filled exprWidth old m) (sym rows),
         )
 
-    pub leaf-reads : (e : Expr) (i : ExprInner) (at : ByteOffset) (f : Cursor) (rest : List Token) {r : ExprAnswer} (old new : List ℕ) → Leaf e i at → Reached s t n c f rest 0 0 → c .token .0 < f .token .0 → r ≡ completed (Inner i f) → new ≡ completedTable at (Inner i f) old → ExprReads s t n c (got e rest) r old new
+    pub leaf-reads : (e : Expr) (i : ExprInner) (at : ByteOffset) (f : Cursor) (rest : List Token) {r : ExprAnswer} (old new : List ℕ) → LeafExpr e i at → Reached s t n c f rest 0 0 → c .token .0 < f .token .0 → r ≡ completed (Inner i f) → new ≡ completedTable at (Inner i f) old → ExprReads s t n c (got e rest) r old new
     unfolding filled
     leaf-reads e i at f rest old new leaf to room is-r is-new = finish-reads e i at 0 [] f rest old (leaf .one) (leaf .number m) (ap (map exprWords) (leaf .row m)) refl to (omega arith) refl is-r is-new
 
     -- an expression of two parts: l was read from d up to f, then r up to g
     module _ {d : Cursor} {q : List Token} (to : Reached s t n c d q 0 0) (room : c .token .0 < d .token .0) where
       two-reads : (e : Expr) (i : ExprInner) (at : ByteOffset) (k : node.PartKind) (sp : Span) (l r : Part) {f g : Cursor} {q1 rest : List Token} {a : ExprAnswer} (old : List ℕ) {mid end new : List ℕ} → partOf e ≡ part.part k (at .0) sp l r
-          → recordBy i at ≡ exprRecord (node.part k) (at .0) (partNo l (d .expr .0)) (partNo r (f .expr .0)) sp → ReadTo d f q1 l old mid → ReadTo f g rest r mid end → a ≡ completed (Inner i g) → new ≡ completedTable at (Inner i g) end → ExprReads s t n c (got e rest) a old new
+          → exprRecordBy i at ≡ exprRecord (node.part k) (at .0) (partNo l (d .expr .0)) (partNo r (f .expr .0)) sp → ReadTo d f q1 l old mid → ReadTo f g rest r mid end → a ≡ completed (Inner i g) → new ≡ completedTable at (Inner i g) end → ExprReads s t n c (got e rest) a old new
       unfolding weight
       two-reads e i at k sp l r {f} {g} {q1} {rest} old {mid} {end} is-part is-record first second is-a is-new =
           let from : d .expr .0 ≡ m = same-count to in
           let count : f .expr .0 ≡ m + weight l = omega (arith, first .to .exprs, from) in
           let mids : mid ≡ filled exprWidth old m (exprRows l m) = first .table ∙ ap (λ (j : ℕ). filled exprWidth old j (exprRows l j)) from in
           let ends : end ≡ filled exprWidth mid (m + weight l) (exprRows r (m + weight l)) = second .table ∙ ap (λ (j : ℕ). filled exprWidth mid j (exprRows r j)) count in
-          let own : recordBy i at ≡ exprRecord (node.part k) (at .0) (partNo l m) (partNo r (m + weight l)) sp =
+          let own : exprRecordBy i at ≡ exprRecord (node.part k) (at .0) (partNo l m) (partNo r (m + weight l)) sp =
           is-record ∙ ap (λ (j : ℕ). exprRecord (node.part k) (at .0) (partNo l j) (partNo r (f .expr .0)) sp) from ∙ ap (λ (j : ℕ). exprRecord (node.part k) (at .0) (partNo l m) (partNo r j) sp) count in
           finish-reads e i at (weight l + weight r) (exprRows l m ++ exprRows r (m + weight l)) g rest old (ap weight is-part) (ap (λ (p : Part). partNo p m) is-part)
           (ap (λ (p : Part). exprRows p m) is-part ∙ rows-part k (at .0) sp l r m ∙ ap (λ (x : ExprRecord). (exprRows l m ++ exprRows r (m + weight l)) ++ (exprWords x ∷ [])) (sym own))
@@ -205,7 +205,7 @@ module _ (s t : List ℕ) (n : ℕ) where
       unfolding unaryBy goOn partOf
       unary-reads u k P (Read e f) a old mid new kind h er en =
           let x = expr-read d old mid P h refl in
-          let own : recordBy (One k e) at ≡ exprRecord (node.part (unaryKind u)) (at .0) (partNo (partOf (x .0)) (d .expr .0)) 0 noSpan = ap (λ (j : NodeKind). recordBy (One j e) at) kind ∙ ap (λ (j : ExprNo). recordBy (One (ofPart (unaryKind u)) j) at) (x .3) in
+          let own : exprRecordBy (One k e) at ≡ exprRecord (node.part (unaryKind u)) (at .0) (partNo (partOf (x .0)) (d .expr .0)) 0 noSpan = ap (λ (j : NodeKind). exprRecordBy (One j e) at) kind ∙ ap (λ (j : ExprNo). exprRecordBy (One (ofPart (unaryKind u)) j) at) (x .3) in
           subst (λ (Q : Parsed Expr). ExprReads s t n c (goOn Q (λ y. got (tree.unary u (at .0) y))) a old new) (sym (x .2))
           (two-reads to room (tree.unary u (at .0) (x .0)) (One k e) at (unaryKind u) noSpan (partOf (x .0)) part.none old refl own (x .4) (none-more (x .4)) er en)
       unary-reads u k P (Refused y) a old mid new kind h er en =
@@ -220,7 +220,7 @@ module _ (s t : List ℕ) (n : ℕ) where
         binary-reads u k l P (Read e g) a end new kind first h er en =
             let x = expr-read f mid end P h refl in
             let m : ExprNo = record { 0 = partNo (partOf l) (d .expr .0) } in
-            let own : recordBy (Two k m e) at ≡ exprRecord (node.part (binaryKind u)) (at .0) (partNo (partOf l) (d .expr .0)) (partNo (partOf (x .0)) (f .expr .0)) noSpan = ap (λ (j : NodeKind). recordBy (Two j m e) at) kind ∙ ap (λ (j : ExprNo). recordBy (Two (ofPart (binaryKind u)) m j) at) (x .3) in
+            let own : exprRecordBy (Two k m e) at ≡ exprRecord (node.part (binaryKind u)) (at .0) (partNo (partOf l) (d .expr .0)) (partNo (partOf (x .0)) (f .expr .0)) noSpan = ap (λ (j : NodeKind). exprRecordBy (Two j m e) at) kind ∙ ap (λ (j : ExprNo). exprRecordBy (Two (ofPart (binaryKind u)) m j) at) (x .3) in
             subst (λ (Q : Parsed Expr). ExprReads s t n c (goOn Q (λ y. got (tree.binary u (at .0) l y))) a old new) (sym (x .2))
             (two-reads to room (tree.binary u (at .0) l (x .0)) (Two k m e) at (binaryKind u) noSpan (partOf l) (partOf (x .0)) old refl own first (x .4) er en)
         binary-reads u k l P (Refused y) a end new kind first h er en =
@@ -234,7 +234,7 @@ module _ (s t : List ℕ) (n : ℕ) where
         left-reads e P (ReadCmr k g) a end new first h er en =
             let x = cmr-read f mid end P h refl in
             let m : ExprNo = record { 0 = partNo (partOf e) (d .expr .0) } in
-            let own : recordBy (AssertL m k) at ≡ exprRecord (node.part node.assertl) (at .0) (partNo (partOf e) (d .expr .0)) (partNo (cmrPart (x .0)) (f .expr .0)) (cmrSpan (x .0)) = ap (λ (j : Cmr). recordBy (AssertL m j) at) (x .3) ∙ left-record (x .0) at m (f .expr .0) in
+            let own : exprRecordBy (AssertL m k) at ≡ exprRecord (node.part node.assertl) (at .0) (partNo (partOf e) (d .expr .0)) (partNo (cmrPart (x .0)) (f .expr .0)) (cmrSpan (x .0)) = ap (λ (j : Cmr). exprRecordBy (AssertL m j) at) (x .3) ∙ left-record (x .0) at m (f .expr .0) in
             subst (λ (Q : Parsed tree.Cmr). ExprReads s t n c (goOn Q (λ y. got (tree.assertl (at .0) e y))) a old new) (sym (x .2))
             (two-reads to room (tree.assertl (at .0) e (x .0)) (AssertL m k) at node.assertl (cmrSpan (x .0)) (partOf e) (cmrPart (x .0)) old refl own first (x .4) er en)
         left-reads e P (NoCmr y) a end new first h er en =
@@ -247,7 +247,7 @@ module _ (s t : List ℕ) (n : ℕ) where
         unfolding assertRBy goOn partOf
         right-reads k P (Read e g) a end new first h er en =
             let x = expr-read f mid end P h refl in
-            let own : recordBy (AssertR (cmrBy k (d .expr .0)) e) at ≡ exprRecord (node.part node.assertr) (at .0) (partNo (cmrPart k) (d .expr .0)) (partNo (partOf (x .0)) (f .expr .0)) (cmrSpan k) = right-record k at e (d .expr .0) ∙ ap (λ (j : ExprNo). exprRecord (node.part node.assertr) (at .0) (partNo (cmrPart k) (d .expr .0)) (j .0) (cmrSpan k)) (x .3) in
+            let own : exprRecordBy (AssertR (cmrBy k (d .expr .0)) e) at ≡ exprRecord (node.part node.assertr) (at .0) (partNo (cmrPart k) (d .expr .0)) (partNo (partOf (x .0)) (f .expr .0)) (cmrSpan k) = right-record k at e (d .expr .0) ∙ ap (λ (j : ExprNo). exprRecord (node.part node.assertr) (at .0) (partNo (cmrPart k) (d .expr .0)) (j .0) (cmrSpan k)) (x .3) in
             subst (λ (Q : Parsed Expr). ExprReads s t n c (goOn Q (λ y. got (tree.assertr (at .0) k y))) a old new) (sym (x .2))
             (two-reads to room (tree.assertr (at .0) k (x .0)) (AssertR (cmrBy k (d .expr .0)) e) at node.assertr (cmrSpan k) (cmrPart k) (partOf (x .0)) old refl own first (x .4) er en)
         right-reads k P (Refused y) a end new first h er en =
@@ -257,13 +257,13 @@ module _ (s t : List ℕ) (n : ℕ) where
 
     -- ---- behind an expression in parentheses or braces
 
-    pub parens-reads : (P : Parsed Expr) (p : ExprAnswer) {r : ExprAnswer} (old new : List ℕ) → ExprReads s t n c P p old new → r ≡ closed s t n p → ExprReads s t n c (goOn P (λ x ts. goOn (expect token.rparen ts) (λ _. got x))) r old new
-    unfolding ExprReads closed goOn
+    pub parens-reads : (P : Parsed Expr) (p : ExprAnswer) {r : ExprAnswer} (old new : List ℕ) → ExprReads s t n c P p old new → r ≡ closedExpr s t n p → ExprReads s t n c (goOn P (λ x ts. goOn (expect token.rparen ts) (λ _. got x))) r old new
+    unfolding ExprReads closedExpr goOn
     parens-reads (stop x q) p old new h f = (f ∙ rw (h .0), h .1)
     parens-reads (got x q) p {r} old new h f = go (meets (length s) token.rparen (h .0) q)
       where
-        is : r ≡ closed s t n (Read (record { 0 = partNo (partOf x) (c .expr .0) }) (h .0))
-        is = f ∙ ap (closed s t n) (h .1)
+        is : r ≡ closedExpr s t n (Read (record { 0 = partNo (partOf x) (c .expr .0) }) (h .0))
+        is = f ∙ ap (closedExpr s t n) (h .1)
 
         go : Meets (length s) token.rparen (h .0) q → ExprReads s t n c (goOn (expect token.rparen q) (λ _. got x)) r old new
         go (passes v later eq ep ec) =

@@ -32,7 +32,7 @@ use Rattle.heads.specs.declared.Cmr.the-variants.{Expr as OfExpr, Literal}
 use Rattle.heads.specs.declared.ExprInner.the-variants.{AssertL, AssertR, Unary as One, Binary as Two}
 use Rattle.heads.specs.declared.TwoParts.{TwoParts}
 use Rattle.heads.specs.declared.ExprHead.the-variants.{Two as TwoHead}
-use Rattle.heads.specs.Answers.{recordBy, HeadReads}
+use Rattle.heads.specs.Answers.{exprRecordBy, HeadReads}
 use Rattle.exprs.specs.declared.ExprAnswer.{ExprAnswer}
 use Rattle.exprs.specs.declared.ExprAnswer.the-variants.{Read, Refused}
 use Rattle.exprs.specs.declared.CmrAnswer.{CmrAnswer}
@@ -86,14 +86,14 @@ cmrHeadBy end c (t ∷ ts) =
 
 -- ---- behind the parts
 
-abbrev closedBy : ExprNo → Expected → ExprAnswer
-closedBy e (Passed d) = Read e d
-closedBy e (NotPassed r) = Refused r
+abbrev closedExprBy : ExprNo → Expected → ExprAnswer
+closedExprBy e (Passed d) = Read e d
+closedExprBy e (NotPassed r) = Refused r
 
 -- a closing parenthesis
-unfoldable pub closed : (source tokens : List ℕ) → (n : ℕ) → ExprAnswer → ExprAnswer
-closed s t n (Read e c) = closedBy e (expected (length s) c (token.number token.rparen) (tokensLeft s t n (c .token .0)))
-closed s t n (Refused r) = Refused r
+unfoldable pub closedExpr : (source tokens : List ℕ) → (n : ℕ) → ExprAnswer → ExprAnswer
+closedExpr s t n (Read e c) = closedExprBy e (expected (length s) c (token.number token.rparen) (tokensLeft s t n (c .token .0)))
+closedExpr s t n (Refused r) = Refused r
 
 abbrev closedCmrBy : ExprNo → Expected → CmrAnswer
 closedCmrBy e (Passed d) = ReadCmr (OfExpr e) d
@@ -129,5 +129,5 @@ completed (Incomplete r) = Refused r
 
 -- its record
 unfoldable pub completedTable : ByteOffset → Complete → List ℕ → List ℕ
-completedTable at (Inner i c) old = written exprWidth old (nextNumber (c .expr .0)) (exprWords (recordBy i at))
+completedTable at (Inner i c) old = written exprWidth old (nextNumber (c .expr .0)) (exprWords (exprRecordBy i at))
 completedTable at (Incomplete r) old = old

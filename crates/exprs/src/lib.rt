@@ -7,7 +7,7 @@ ghost use Rattle.checks.specs.Checks.{checksOf};
 ghost use Rattle.cursor.specs.Tokens.{tokensLeft};
 ghost use Rattle.cursor.specs.Cursor.{Ready};
 ghost use Rattle.grammar.specs.Grammar.{expr, cmr};
-ghost use Rattle.exprs.specs.Answers.{cmrHeadBy, completed, completedTable, closed, closedCmr, unaryBy, binaryBy, assertLBy, assertRBy, ExprReads, CmrReads, TwoReads};
+ghost use Rattle.exprs.specs.Answers.{cmrHeadBy, completed, completedTable, closedExpr, closedCmr, unaryBy, binaryBy, assertLBy, assertRBy, ExprReads, CmrReads, TwoReads};
 use checks::Fault;
 use cursor::Ahead;
 use cursor::Cursor;
@@ -106,7 +106,7 @@ fn cmr_head(source: &[u8], tokens: &[u32], count: u32, c: Cursor) -> CmrHead
 // Passes the parenthesis behind an expression.
 fn close(source: &[u8], tokens: &[u32], count: u32, p: ExprAnswer) -> ExprAnswer
     requires { ⌜ length (now source) ≤ sourceLimit ⌝ }
-    ensures { λ r. ⌜ r ≡ closed (now (source .entry)) (now (tokens .entry)) count p ⌝ }
+    ensures { λ r. ⌜ r ≡ closedExpr (now (source .entry)) (now (tokens .entry)) count p ⌝ }
 {
     match p {
         ExprAnswer::Read(e, c) => match cursor::expect(

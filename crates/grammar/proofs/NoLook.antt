@@ -23,7 +23,7 @@ use Rattle.grammar.specs.Tree as tree
 use Rattle.grammar.specs.Tree.{Nullary, Unary, Binary, Expr, Op, Ty, Line}
 use Rattle.grammar.specs.Rule.{Parsed, got, stop, Rule, goOn, _>>=_, _>>_, give, refuse, refuseAt, isOf, oneOf, Table, entry, chosen, choice, taken, perhaps, again, repeatFor, repeat}
 use Rattle.grammar.specs.Grammar as grammar
-use Rattle.grammar.specs.Grammar.{names, literals, passed, TypeHead, power, operators, joined, operand, chain, Head, typeHead, atomBy, atom, type, arrow, head, cmr, exprBy, expr, arrowIf, perhapsArrow, line, another, lines}
+use Rattle.grammar.specs.Grammar.{names, literals, passed, TypeHead, power, operators, withRight, operand, chain, Head, typeHead, atomBy, atom, type, arrow, head, cmr, exprBy, expr, arrowIf, perhapsArrow, line, another, lines}
 use Rattle.grammar.specs.Places.{movedToken, movedExpr, movedCmr, movedType, movedArrow, movedLine, movedAnswer, Alike, LinesAlike, AnswersAlike, read, refused}
 
 module _ (g : ℕ → ℕ) where
@@ -165,7 +165,7 @@ module _ (g : ℕ → ℕ) where
       unfolding operand movedType
       operand-moves l = moves-then _ _ (moves-perhaps operators) go
         where
-          go : (o : Option Op) → Moves (Option·map (movedType g)) (joined (atom checks T) (movedType g l) o) (joined (atom checks T) l o)
+          go : (o : Option Op) → Moves (Option·map (movedType g)) (withRight (atom checks T) (movedType g l) o) (withRight (atom checks T) l o)
           go none = moves-give (Option·map (movedType g)) none
           go (some o) = moves-then _ _ atom-moves (λ r. moves-give (Option·map (movedType g)) (some (tree.op o l r)))
 

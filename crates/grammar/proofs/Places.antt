@@ -9,6 +9,7 @@ use native.Mathlib.Omega.{arith}
 use lib.ListN.{length, getD}
 use Rattle.records.specs.Base.{if_then_else_}
 use Rattle.records.specs.NodeKind.{PartKind}
+use Rattle.records.specs.Records.{noSpan}
 use Rattle.records.specs.declared.Span.{Span}
 use Rattle.lex.specs.Tokens.{Token}
 use Rattle.lex.specs.Tiles.{InOrder, Inside}
@@ -18,8 +19,8 @@ use Rattle.grammar.specs.Tree.{Expr, Cmr, Ty, present, Arrow, Line}
 use Rattle.grammar.specs.Rule.{got}
 use Rattle.grammar.specs.Grammar.{powerOf, lines}
 use Rattle.grammar.specs.Part as part
-use Rattle.grammar.specs.Part.{Part, unaryKind, spanOf, noSpan, cmrSpan, partOf, cmrPart, weight}
-use Rattle.grammar.specs.Recorded.{exprRecords, typeRecord, opKind, typeWeight, typeRecords, linePart, exprsOf, typesIn, lineRecord, lineTypes, lineRecords, linesExprs, linesTypes}
+use Rattle.grammar.specs.Part.{Part, unaryKind, spanOf, cmrSpan, partOf, cmrPart, weight}
+use Rattle.grammar.specs.Recorded.{exprRecords, typeRecord, opKind, typeWeight, typeRecords, linePart, exprsOf, typesInLine, lineRecord, lineTypes, lineRecords, linesExprs, linesTypes}
 use Rattle.grammar.specs.Derives as is
 use Rattle.grammar.specs.Derives.{IsType, IsAtom, IsExpr, IsCmr, IsArrow, IsLine, IsFile}
 use Rattle.grammar.specs.Places.{Each, places, filePlaces, RisingFrom, Rising, InSource, ExprLies, TypeLies, LineLies}
@@ -247,9 +248,9 @@ module _ (n : ℕ) where
     file-lies (is.more {ts} {us} {l} {ls} k f) h e t =
         let a = line-lies (line-made checks k) (front ts us h) in
         let b = line-types-lie k (front ts us h) t in
-        let c = file-lies f (back ts us h) (e + exprsOf l) (t + typesIn l) in (
+        let c = file-lies f (back ts us h) (e + exprsOf l) (t + typesInLine l) in (
           each-append (ExprLies n) (exprRecords (linePart l) e) (linesExprs ls (e + exprsOf l)) (a .0 e) (c .0),
-          each-append (TypeLies n) (lineTypes l t) (linesTypes ls (t + typesIn l)) b (c .1),
+          each-append (TypeLies n) (lineTypes l t) (linesTypes ls (t + typesInLine l)) b (c .1),
           (a .1, c .2),
         )
 

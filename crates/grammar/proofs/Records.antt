@@ -14,8 +14,8 @@ use Rattle.grammar.specs.Tree as tree
 use Rattle.grammar.specs.Tree.{Op, Ty, present, Line, typesOf}
 use Rattle.grammar.specs.Part as part
 use Rattle.grammar.specs.Part.{Part, weight}
-use Rattle.grammar.specs.Recorded.{partNo, exprRecords, typeRecord, opKind, typeWeight, typeNo, typeRecords, linePart, exprsOf, sourceWeight, typesIn, lineRecord, lineTypes, lineRecords, linesExprs, linesTypes}
-use Rattle.grammar.specs.Places.{Each, numbered, Child, ExprChildren, TypeChildren, Refers}
+use Rattle.grammar.specs.Recorded.{partNo, exprRecords, typeRecord, opKind, typeWeight, typeNo, typeRecords, linePart, exprsOf, sourceWeight, typesInLine, lineRecord, lineTypes, lineRecords, linesExprs, linesTypes}
+use Rattle.grammar.specs.Places.{Each, numbered, Child, ExprChildren, TypeChildren, NumbersWithin}
 use Rattle.grammar.proofs.Takes.{total, expr-records, type-records, lines-exprs, lines-types}
 use Rattle.grammar.proofs.Snoc.{Recording, on, past, exprs-recording, types-recording}
 
@@ -155,7 +155,7 @@ pub lines-type-children : (ls : List Line) (m : ℕ) → Each (TypeChildren m) (
 unfolding lineTypes
 lines-type-children = in-lines TypeChildren type-wide types-recording size each
   where
-    size : (l : Line) (m : ℕ) → length (lineTypes l m) ≡ typesIn l
+    size : (l : Line) (m : ℕ) → length (lineTypes l m) ≡ typesInLine l
     size l m = simp (length-append, type-records)
 
     each : (l : Line) (m : ℕ) → Each (TypeChildren m) (numbered m (lineTypes l m))
@@ -168,14 +168,14 @@ children-smaller-types ls i none h o e =
 
 -- ---- lines
 
-refers-from : (ls : List Line) (e t m n : ℕ) → e + total exprsOf ls ≤ m → t + total typesIn ls ≤ n → Each (Refers m n) (lineRecords ls e t)
+refers-from : (ls : List Line) (e t m n : ℕ) → e + total exprsOf ls ≤ m → t + total typesInLine ls ≤ n → Each (NumbersWithin m n) (lineRecords ls e t)
 unfolding lineRecords lineRecord total
 refers-from [] e t m n h k = tt
 refers-from (l ∷ ls) e t m n h k =
     let a = part-no (linePart l) e in
     let b = type-no (typesOf l .source) t in
     let c = type-no (typesOf l .target) (t + sourceWeight l) in
-    ((omega (arith, a .0), omega (arith, b .0), omega (arith, c .0)), refers-from ls (e + exprsOf l) (t + typesIn l) m n (omega arith) (omega arith))
+    ((omega (arith, a .0), omega (arith, b .0), omega (arith, c .0)), refers-from ls (e + exprsOf l) (t + typesInLine l) m n (omega arith) (omega arith))
 
-pub lines-refer : (ls : List Line) → Each (Refers (length (linesExprs ls 0)) (length (linesTypes ls 0))) (lineRecords ls 0 0)
+pub lines-refer : (ls : List Line) → Each (NumbersWithin (length (linesExprs ls 0)) (length (linesTypes ls 0))) (lineRecords ls 0 0)
 lines-refer ls = refers-from ls 0 0 _ _ (omega (arith, lines-exprs ls 0)) (omega (arith, lines-types ls 0))

@@ -6,7 +6,7 @@ use mathlib.Core.List.{List, [], _∷_, _++_, append-assoc, append-nil}
 use native.Mathlib.Nat.{add-zero, add-assoc}
 use Rattle.records.specs.declared.ExprRecord.{ExprRecord}
 use Rattle.grammar.specs.Tree.{Line}
-use Rattle.grammar.specs.Recorded.{linePart, exprsOf, typesIn, exprRecords, lineRecord, lineTypes, lineRecords, linesExprs, linesTypes}
+use Rattle.grammar.specs.Recorded.{linePart, exprsOf, typesInLine, exprRecords, lineRecord, lineTypes, lineRecords, linesExprs, linesTypes}
 use Rattle.grammar.proofs.Takes.{total}
 
 -- F is the records of lines, G those of one line, from a state; `on` is the state behind a line, `past` behind lines
@@ -44,25 +44,25 @@ pub exprs-recording : Recording linesExprs lineExprs (on exprsOf) (past exprsOf)
 unfolding linesExprs
 exprs-recording = record { nothing = λ e. refl; first = λ l ls e. refl; stay = past-none exprsOf; go = past-line exprsOf }
 
-pub types-recording : Recording linesTypes lineTypes (on typesIn) (past typesIn)
+pub types-recording : Recording linesTypes lineTypes (on typesInLine) (past typesInLine)
 unfolding linesTypes
-types-recording = record { nothing = λ t. refl; first = λ l ls t. refl; stay = past-none typesIn; go = past-line typesIn }
+types-recording = record { nothing = λ t. refl; first = λ l ls t. refl; stay = past-none typesInLine; go = past-line typesInLine }
 
-pub lines-recording : Recording (λ ls (s : ℕ × ℕ). lineRecords ls (s .0) (s .1)) (λ l s. lineRecord l (s .0) (s .1) ∷ []) (λ s l. (on exprsOf (s .0) l, on typesIn (s .1) l)) (λ s ls. (past exprsOf (s .0) ls, past typesIn (s .1) ls))
+pub lines-recording : Recording (λ ls (s : ℕ × ℕ). lineRecords ls (s .0) (s .1)) (λ l s. lineRecord l (s .0) (s .1) ∷ []) (λ s l. (on exprsOf (s .0) l, on typesInLine (s .1) l)) (λ s ls. (past exprsOf (s .0) ls, past typesInLine (s .1) ls))
 unfolding lineRecords
 lines-recording =
     record {
       nothing = λ s. refl;
       first = λ l ls s. refl;
-      stay = λ s. rw (past-none exprsOf, past-none typesIn);
-      go = λ s l ls. rw (past-line exprsOf, past-line typesIn);
+      stay = λ s. rw (past-none exprsOf, past-none typesInLine);
+      go = λ s l ls. rw (past-line exprsOf, past-line typesInLine);
     }
 
 pub lines-exprs-snoc : (ls : List Line) (l : Line) (e : ℕ) → linesExprs (ls ++ (l ∷ [])) e ≡ linesExprs ls e ++ exprRecords (linePart l) (e + total exprsOf ls)
 lines-exprs-snoc = snoc exprs-recording
 
-pub lines-types-snoc : (ls : List Line) (l : Line) (t : ℕ) → linesTypes (ls ++ (l ∷ [])) t ≡ linesTypes ls t ++ lineTypes l (t + total typesIn ls)
+pub lines-types-snoc : (ls : List Line) (l : Line) (t : ℕ) → linesTypes (ls ++ (l ∷ [])) t ≡ linesTypes ls t ++ lineTypes l (t + total typesInLine ls)
 lines-types-snoc = snoc types-recording
 
-pub line-records-snoc : (ls : List Line) (l : Line) (e t : ℕ) → lineRecords (ls ++ (l ∷ [])) e t ≡ lineRecords ls e t ++ (lineRecord l (e + total exprsOf ls) (t + total typesIn ls) ∷ [])
+pub line-records-snoc : (ls : List Line) (l : Line) (e t : ℕ) → lineRecords (ls ++ (l ∷ [])) e t ≡ lineRecords ls e t ++ (lineRecord l (e + total exprsOf ls) (t + total typesInLine ls) ∷ [])
 line-records-snoc ls l e t = snoc lines-recording ls l (e, t)

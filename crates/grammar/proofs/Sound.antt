@@ -20,7 +20,7 @@ use Rattle.grammar.specs.Tree as tree
 use Rattle.grammar.specs.Tree.{Nullary, nullaryToken, Unary, unaryToken, Binary, binaryToken, Expr, Op, opToken, Ty, Arrow, Line}
 use Rattle.grammar.specs.Rule.{Parsed, got, stop, Rule, goOn, _>>_, give, isOf, perhaps}
 use Rattle.grammar.specs.Grammar as grammar
-use Rattle.grammar.specs.Grammar.{names, literals, passed, TypeHead, powerOf, power, operators, joined, operand, chain, Head, typeHeads, typeHead, atomBy, atom, type, arrow, leafHeads, innerHeads, head, cmrs, cmr, exprBy, expr, arrowIf, perhapsArrow, lineTails, line, another, lines}
+use Rattle.grammar.specs.Grammar.{names, literals, passed, TypeHead, powerOf, power, operators, withRight, operand, chain, Head, typeHeads, typeHead, atomBy, atom, type, arrow, leafHeads, innerHeads, head, cmrs, cmr, exprBy, expr, arrowIf, perhapsArrow, lineTails, line, another, lines}
 use Rattle.grammar.specs.Derives as is
 use Rattle.grammar.specs.Derives.{OneOf, Is, IsType, IsAtom, IsExpr, IsCmr, IsArrow, IsLine, IsFile}
 use Rattle.grammar.proofs.Obeys.{same-end, gets, Obeys, After, obeys-give, obeys-refuse, obeys-back, obeys-after, obeys-then, obeys-map, obeys-one-of, all, _▹_, obeys-choice, Perhaps, no, yes, obeys-perhaps, Stepped, done, more, obeys-steps, obeys-repeat, obeying-front}
@@ -85,7 +85,7 @@ module _ (checks : Checks) where
     unfolding operand
     operand-obeys l = obeys-then (obeys-perhaps {P = λ o t. Is (opToken o) t} operators ((λ t i. i) ▹ (λ t i. i) ▹ all)) go
       where
-        go : (o : Option Op) (us : List Token) → Perhaps (λ o t. Is (opToken o) t) o us → Obeys (joined (atom checks T) l o) (λ o vs. Stepped (λ x us. IsType checks (suc d) us x) l o (us ++ vs))
+        go : (o : Option Op) (us : List Token) → Perhaps (λ o t. Is (opToken o) t) o us → Obeys (withRight (atom checks T) l o) (λ o vs. Stepped (λ x us. IsType checks (suc d) us x) l o (us ++ vs))
         go o us no = obeys-give none done
         go o us (yes {a = q} {t} i) = obeys-map (λ r. some (tree.op q l r)) atom-obeys (λ r vs k. more (λ us hl. is.op q t hl i k))
 

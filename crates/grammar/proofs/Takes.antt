@@ -20,7 +20,7 @@ use Rattle.grammar.specs.Grammar as grammar
 use Rattle.grammar.specs.Grammar.{TypeHead, powerOf, Head, typeHead, atom, type, arrow, head, cmr, expr, line, lines}
 use Rattle.grammar.specs.Part as part
 use Rattle.grammar.specs.Part.{Part, partOf, cmrPart, weight}
-use Rattle.grammar.specs.Recorded.{typeWeight, exprsOf, typesIn, exprRecords, typeRecords, lineRecords, lineTypes, linesExprs, linesTypes}
+use Rattle.grammar.specs.Recorded.{typeWeight, exprsOf, typesInLine, exprRecords, typeRecords, lineRecords, lineTypes, linesExprs, linesTypes}
 use Rattle.grammar.specs.Derives as is
 use Rattle.grammar.specs.Derives.{IsType, IsAtom, IsExpr, IsCmr, IsArrow, IsLine, IsFile}
 use Rattle.grammar.proofs.Obeys.{Obeys, Split, obeys-took, obeys-split}
@@ -115,13 +115,13 @@ module _ (checks : Checks) where
   expr-holds : (d : ℕ) {us : List Token} {e : Expr} → IsExpr checks d us e → Holds (weight (partOf e)) us
   expr-holds (suc d) k = expr-by d (λ us e. expr-holds d) k
 
-  line-holds : {us : List Token} {l : Line} → IsLine checks us l → Holds (exprsOf l) us × Holds (typesIn l) us
+  line-holds : {us : List Token} {l : Line} → IsLine checks us l → Holds (exprsOf l) us × Holds (typesInLine l) us
   unfolding typeWeight weight
   line-holds (is.plain x t n i h) = let a = expr-holds _ h in omega arith
   line-holds (is.typed x t u n i h j k) = let a = expr-holds _ h in let b = arrow-holds k in simp length-append (omega arith)
   line-holds (is.declared x t n i k) = let b = arrow-holds k in omega arith
 
-  file-holds : {us : List Token} {ls : List Line} → IsFile checks us ls → (length ls ≤ length us) × (total exprsOf ls ≤ length us) × (total typesIn ls ≤ length us)
+  file-holds : {us : List Token} {ls : List Line} → IsFile checks us ls → (length ls ≤ length us) × (total exprsOf ls ≤ length us) × (total typesInLine ls ≤ length us)
   unfolding total
   file-holds is.end = omega arith
   file-holds (is.more h f) = let a = line-holds h in let b = file-holds f in simp length-append (omega arith)
@@ -158,7 +158,7 @@ pub record TookLine (l : Line) (ts rest : List Token) : Type 0 where
   pub used : List Token
   pub split : ts ≡ used ++ rest
   pub exprs : exprsOf l ≤ length used
-  pub types : typesIn l ≤ length used
+  pub types : typesInLine l ≤ length used
   pub some : 0 < length used
 
 -- all lines: no token is left, and there are at least as many as there are records of each table
@@ -166,7 +166,7 @@ pub record TookLines (ls : List Line) (ts rest : List Token) : Type 0 where
   pub none : rest ≡ []
   pub lines : length ls ≤ length ts
   pub exprs : total exprsOf ls ≤ length ts
-  pub types : total typesIn ls ≤ length ts
+  pub types : total typesInLine ls ≤ length ts
 
 module _ (checks : Checks) where
   pub type-head-takes : (ts rest : List Token) (h : TypeHead) → typeHead checks ts ≡ got h rest → Took (typeHeadWeight h) ts rest
@@ -257,14 +257,14 @@ type-records (tree.op o l r) m = simp (length-append, type-records l, type-recor
 pub line-records : (ls : List Line) (e t : ℕ) → length (lineRecords ls e t) ≡ length ls
 unfolding lineRecords
 line-records [] e t = refl
-line-records (l ∷ ls) e t = ap suc (line-records ls (e + exprsOf l) (t + typesIn l))
+line-records (l ∷ ls) e t = ap suc (line-records ls (e + exprsOf l) (t + typesInLine l))
 
 pub lines-exprs : (ls : List Line) (e : ℕ) → length (linesExprs ls e) ≡ total exprsOf ls
 unfolding linesExprs total
 lines-exprs [] e = refl
 lines-exprs (l ∷ ls) e = simp (length-append, expr-records, lines-exprs ls)
 
-pub lines-types : (ls : List Line) (t : ℕ) → length (linesTypes ls t) ≡ total typesIn ls
+pub lines-types : (ls : List Line) (t : ℕ) → length (linesTypes ls t) ≡ total typesInLine ls
 unfolding linesTypes lineTypes total
 lines-types [] t = refl
 lines-types (l ∷ ls) t = simp (length-append, type-records, lines-types ls)

@@ -48,9 +48,9 @@ power t (BadPower x) = refuseAt t x
 abbrev pub operators : Table Op
 operators = map (λ (o : Op). (opToken o, o)) (tree.sum ∷ tree.product ∷ [])
 
-abbrev pub joined : Rule Ty → (l : Ty) → Option Op → Rule (Option Ty)
-joined A l none = give none
-joined A l (some o) = do
+abbrev pub withRight : Rule Ty → (l : Ty) → Option Op → Rule (Option Ty)
+withRight A l none = give none
+withRight A l (some o) = do
   r ← A
   give (some (tree.op o l r))
 
@@ -58,7 +58,7 @@ joined A l (some o) = do
 unfoldable pub operand : Table Op → Rule Ty → (l : Ty) → Rule (Option Ty)
 operand table A l = do
   o ← perhaps table
-  joined A l o
+  withRight A l o
 
 -- chain := A { operator A }, grouped to the left
 unfoldable pub chain : Table Op → Rule Ty → Rule Ty

@@ -4,6 +4,7 @@ use Prim.Native.Nat.{ℕ, suc, _+_}
 use mathlib.Core.Option.{Option, none as no, some}
 use Rattle.records.specs.NodeKind as node
 use Rattle.records.specs.NodeKind.{PartKind}
+use Rattle.records.specs.Records.{noSpan}
 use Rattle.records.specs.declared.Span.{Span}
 use Rattle.lex.specs.Tokens.{Token, recordOf}
 use Rattle.grammar.specs.Tree as tree
@@ -35,9 +36,6 @@ binaryKind tree.pair = node.pair
 -- A span is the literal, literal CMR, jet token, name used or hole's name; otherwise 0, 0.
 abbrev pub spanOf : Token → Span
 spanOf t = recordOf t .span
-
-abbrev pub noSpan : Span
-noSpan = record { start = record { 0 = 0 }; len = 0 }
 
 abbrev pub cmrSpan : Cmr → Span
 cmrSpan (tree.inside e) = noSpan

@@ -44,8 +44,8 @@ abbrev pub TypeChildren : (m : ℕ) → ℕ × TypeRecord → Type 0
 TypeChildren m (n, r) = (o : Op) → r .kind .0 ≡ kind.number (opKind o) → Child m n (r .left) × Child m n (r .right)
 
 -- a line's numbers, with so many records of expressions and of types
-abbrev pub Refers : (exprs types : ℕ) → LineRecord → Type 0
-Refers e t r = (r .expr .0 ≤ e) × (r .source .0 ≤ t) × (r .target .0 ≤ t)
+abbrev pub NumbersWithin : (exprs types : ℕ) → LineRecord → Type 0
+NumbersWithin e t r = (r .expr .0 ≤ e) × (r .source .0 ≤ t) × (r .target .0 ≤ t)
 
 -- ---- places
 

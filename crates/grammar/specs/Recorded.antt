@@ -89,8 +89,8 @@ exprsOf l = weight (linePart l)
 abbrev pub sourceWeight : Line → ℕ
 sourceWeight l = typeWeight (typesOf l .source)
 
-abbrev pub typesIn : Line → ℕ
-typesIn l = sourceWeight l + typeWeight (typesOf l .target)
+abbrev pub typesInLine : Line → ℕ
+typesInLine l = sourceWeight l + typeWeight (typesOf l .target)
 
 -- name start, name length, expression, source type, target type; e and t records of expressions and types stand before
 unfoldable pub lineRecord : Line → (e t : ℕ) → LineRecord
@@ -109,7 +109,7 @@ lineTypes l t = typeRecords (typesOf l .source) t ++ typeRecords (typesOf l .tar
 -- the records of lines
 unfoldable pub lineRecords : List Line → (e t : ℕ) → List LineRecord
 lineRecords [] e t = []
-lineRecords (l ∷ ls) e t = lineRecord l e t ∷ lineRecords ls (e + exprsOf l) (t + typesIn l)
+lineRecords (l ∷ ls) e t = lineRecord l e t ∷ lineRecords ls (e + exprsOf l) (t + typesInLine l)
 
 unfoldable pub linesExprs : List Line → (before : ℕ) → List ExprRecord
 linesExprs [] e = []
@@ -117,7 +117,7 @@ linesExprs (l ∷ ls) e = exprRecords (linePart l) e ++ linesExprs ls (e + exprs
 
 unfoldable pub linesTypes : List Line → (before : ℕ) → List TypeRecord
 linesTypes [] t = []
-linesTypes (l ∷ ls) t = lineTypes l t ++ linesTypes ls (t + typesIn l)
+linesTypes (l ∷ ls) t = lineTypes l t ++ linesTypes ls (t + typesInLine l)
 
 -- ---- the rows of the tables: the records' words
 

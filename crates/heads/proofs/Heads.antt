@@ -38,32 +38,32 @@ use Rattle.heads.specs.declared.ExprHead.the-variants.{Whole, Parens, Un
 use Rattle.heads.specs.declared.Keyword.{Keyword}
 use Rattle.heads.specs.declared.Keyword.the-variants.{Nullary as NullaryWord, Unary as UnaryWord, Binary as BinaryWord, Other as OtherWord}
 use Rattle.heads.specs.declared.LiteralAnswer.{LiteralAnswer}
-use Rattle.heads.specs.Answers.{Leaf, HeadReads, ofPart, keywords, KeywordIs, keywordHead, literalAnswer, holeHead, testedBy, wordHead, failHead}
+use Rattle.heads.specs.Answers.{LeafExpr, HeadReads, ofPart, partKeywords, KeywordIs, keywordHead, literalAnswer, holeHead, testedBy, wordHead, failHead}
 use Rattle.heads.proofs.Steps.{next-is}
 
 -- ---- expressions of one record
 
-leaf-hole : (x : Token) → Leaf (tree.hole x) (Hole (spanOf x)) (record { 0 = x .start })
+leaf-hole : (x : Token) → LeafExpr (tree.hole x) (Hole (spanOf x)) (record { 0 = x .start })
 unfolding partOf weight exprRecords
 leaf-hole x = record { one = refl; number = λ m. refl; row = λ m. refl }
 
-leaf-word : (x : Token) → Leaf (tree.const x) (Word (spanOf x)) (record { 0 = x .start })
+leaf-word : (x : Token) → LeafExpr (tree.const x) (Word (spanOf x)) (record { 0 = x .start })
 unfolding partOf weight exprRecords
 leaf-word x = record { one = refl; number = λ m. refl; row = λ m. refl }
 
-leaf-fail : (at : ℕ) (x : Token) → Leaf (tree.fail at x) (Fail (spanOf x)) (record { 0 = at })
+leaf-fail : (at : ℕ) (x : Token) → LeafExpr (tree.fail at x) (Fail (spanOf x)) (record { 0 = at })
 unfolding partOf weight exprRecords
 leaf-fail at x = record { one = refl; number = λ m. refl; row = λ m. refl }
 
-leaf-jet : (x : Token) → Leaf (tree.jet x) (Jet (spanOf x)) (record { 0 = x .start })
+leaf-jet : (x : Token) → LeafExpr (tree.jet x) (Jet (spanOf x)) (record { 0 = x .start })
 unfolding partOf weight exprRecords
 leaf-jet x = record { one = refl; number = λ m. refl; row = λ m. refl }
 
-leaf-ref : (x : Token) → Leaf (tree.ref x) (Reference (spanOf x)) (record { 0 = x .start })
+leaf-ref : (x : Token) → LeafExpr (tree.ref x) (Reference (spanOf x)) (record { 0 = x .start })
 unfolding partOf weight exprRecords
 leaf-ref x = record { one = refl; number = λ m. refl; row = λ m. refl }
 
-leaf-nullary : (u : tree.Nullary) (at : ℕ) → Leaf (tree.nullary u at) (Nullary (ofPart (nullaryKind u))) (record { 0 = at })
+leaf-nullary : (u : tree.Nullary) (at : ℕ) → LeafExpr (tree.nullary u at) (Nullary (ofPart (nullaryKind u))) (record { 0 = at })
 unfolding partOf weight exprRecords
 leaf-nullary u at = record { one = refl; number = λ m. refl; row = λ m. refl }
 
@@ -214,11 +214,11 @@ module _ (s jets tokens : List ℕ) (n : ℕ) (c : Cursor) (ready : Ready n c) w
     keyword-reads : (w : Keyword) → NotIn others (r .kind .0) → KeywordIs (r .kind .0) w → Is (head checks (t ∷ left)) (keywordHead w (r .span .start) c)
     unfolding HeadReads KeywordIs keywordHead head goOn
     keyword-reads (NullaryWord k) rest x =
-        let y : Leaf (tree.nullary (x .0) (t .start)) (Nullary k) (r .span .start) = subst (λ (q : NodeKind). Leaf (tree.nullary (x .0) (t .start)) (Nullary q) (r .span .start)) (sym (x .2)) (leaf-nullary (x .0) (t .start)) in
+        let y : LeafExpr (tree.nullary (x .0) (t .start)) (Nullary k) (r .span .start) = subst (λ (q : NodeKind). LeafExpr (tree.nullary (x .0) (t .start)) (Nullary q) (r .span .start)) (sym (x .2)) (leaf-nullary (x .0) (t .start)) in
         (tree.nullary (x .0) (t .start), left, nullary-is (x .0) (x .1), y, reached-none s tokens n ready)
     keyword-reads (UnaryWord k) rest x = (x .0, left, unary-is (x .0) (x .1), x .2, reached-none s tokens n ready)
     keyword-reads (BinaryWord k) rest x = (x .0, left, binary-is (x .0) (x .1), x .2, reached-none s tokens n ready)
-    keyword-reads OtherWord rest x = (ParseFailed, t ∷ left, rw (choice-none (leafHeads checks ++ innerHeads checks) (others ++ map token.number keywords) t left refl (not-both others (map token.number keywords) (r .kind .0) rest x)), refl)
+    keyword-reads OtherWord rest x = (ParseFailed, t ∷ left, rw (choice-none (leafHeads checks ++ innerHeads checks) (others ++ map token.number partKeywords) t left refl (not-both others (map token.number partKeywords) (r .kind .0) rest x)), refl)
 
     pub head-keyword : (w : Keyword) (h : ExprHead) → NotIn others (r .kind .0) → KeywordIs (r .kind .0) w → h ≡ keywordHead w (r .span .start) c → Is (head checks (t ∷ left)) h
     head-keyword w h rest x f = subst (Is (head checks (t ∷ left))) (sym f) (keyword-reads w rest x)

@@ -9,6 +9,7 @@ use lib.ListN.{length}
 use borrow.Author.Tests.{leb-true}
 use Rattle.records.specs.Base.{if_then_else_}
 use Rattle.records.specs.TokenKind as token
+use Rattle.records.specs.Records.{noSpan}
 use Rattle.records.specs.declared.Span.{Span}
 use Rattle.records.specs.declared.ExprRecord.{ExprRecord}
 use Rattle.records.specs.declared.TokenRecord.{TokenRecord}
@@ -24,14 +25,14 @@ use Rattle.cursor.specs.declared.Cursor.{Cursor}
 use Rattle.cursor.specs.declared.ParseRefusal.{ParseRefusal}
 use Rattle.cursor.specs.declared.Ahead.{Ahead}
 use Rattle.cursor.specs.declared.Ahead.the-variants.{Next, End}
-use Rattle.cursor.specs.Tokens.{tokenAt, ofKind, tokensLeft}
+use Rattle.cursor.specs.Tokens.{tokenAt, tokenOfKind, tokensLeft}
 use Rattle.cursor.specs.Cursor.{refusalAt, stepped, peeked}
 use Rattle.cursor.proofs.Laws.{text-length, left-next}
 use Rattle.cursor.proofs.Reached.{some-left}
 use Rattle.cursor.proofs.Steps.{ahead-end, ahead-next}
 use Rattle.grammar.specs.Rule.{isOf}
 use Rattle.grammar.specs.Grammar.{names, literals}
-use Rattle.grammar.specs.Part.{spanOf, noSpan}
+use Rattle.grammar.specs.Part.{spanOf}
 use Rattle.heads.specs.declared.Cmr.{Cmr}
 use Rattle.heads.specs.declared.ExprInner.{ExprInner}
 use Rattle.heads.specs.declared.ExprInner.the-variants.{AssertL, AssertR, Hole, Fail, Jet, Word}
@@ -40,12 +41,12 @@ use Rattle.heads.specs.declared.LiteralAnswer.the-variants.{Read as Read
 use Rattle.heads.specs.declared.ExprHead.{ExprHead}
 use Rattle.heads.specs.declared.ExprHead.the-variants.{Whole, Refused as NoHead}
 use Rattle.heads.specs.declared.Keyword.{Keyword}
-use Rattle.heads.specs.Answers.{recordWith, recordBy, literalAnswer, holeHead, testedBy, wordHead, failHead, keywordHead}
+use Rattle.heads.specs.Answers.{recordWith, exprRecordBy, literalAnswer, holeHead, testedBy, wordHead, failHead, keywordHead}
 
 -- ---- records
 
-pub record-as : {i j : ExprInner} (at : ByteOffset) {r : ExprRecord} → i ≡ j → r ≡ recordBy j at → r ≡ recordBy i at
-record-as at e f = f ∙ ap (λ (k : ExprInner). recordBy k at) (sym e)
+pub record-as : {i j : ExprInner} (at : ByteOffset) {r : ExprRecord} → i ≡ j → r ≡ exprRecordBy j at → r ≡ exprRecordBy i at
+record-as at e f = f ∙ ap (λ (k : ExprInner). exprRecordBy k at) (sym e)
 
 pub spanless : {r : ExprRecord} (k : ℕ) (at : ByteOffset) (l m : ExprNo) {s : Span} → r ≡ recordWith k at l m s → s ≡ noSpan → r ≡ recordWith k at l m noSpan
 spanless k at l m e f = e ∙ ap (recordWith k at l m) f
@@ -93,7 +94,7 @@ of-three false true c = refl
 of-three false false true = refl
 of-three false false false = refl
 
-pub literal-test : (k : TokenKind) → ((eqb (k .0) (token.number token.underscore) || eqb (k .0) (token.number token.bin)) || eqb (k .0) (token.number token.hex)) ≡ isOf (ofKind k) literals
+pub literal-test : (k : TokenKind) → ((eqb (k .0) (token.number token.underscore) || eqb (k .0) (token.number token.bin)) || eqb (k .0) (token.number token.hex)) ≡ isOf (tokenOfKind k) literals
 literal-test k = of-three (eqb (k .0) (token.number token.underscore)) (eqb (k .0) (token.number token.bin)) (eqb (k .0) (token.number token.hex))
 
 module _ (end : ℕ) (c : Cursor) {a : Ahead} (ts : List Token) (e : a ≡ peeked c ts) where
@@ -109,13 +110,13 @@ module _ (end : ℕ) (c : Cursor) {a : Ahead} (ts : List Token) (e : a ≡ peeke
     found : (t : Token) × (rest : List Token) × (ts ≡ t ∷ rest) × (r ≡ recordOf t) × (b ≡ stepped c)
     found = ahead-next c a ts r b e f
 
-    literal-by : (t : Token) (rest : List Token) {y : Bool} → r ≡ recordOf t → y ≡ isOf (ofKind (r .kind)) literals → {x : Bool} → y ≡ x → isOf t literals ≡ x
-    literal-by t rest h g k = sym (ap (λ (q : TokenRecord). isOf (ofKind (q .kind)) literals) h) ∙ sym g ∙ k
+    literal-by : (t : Token) (rest : List Token) {y : Bool} → r ≡ recordOf t → y ≡ isOf (tokenOfKind (r .kind)) literals → {x : Bool} → y ≡ x → isOf t literals ≡ x
+    literal-by t rest h g k = sym (ap (λ (q : TokenRecord). isOf (tokenOfKind (q .kind)) literals) h) ∙ sym g ∙ k
 
-    name-by : (t : Token) (rest : List Token) {y : Bool} → r ≡ recordOf t → y ≡ isOf (ofKind (r .kind)) names → {x : Bool} → y ≡ x → isOf t names ≡ x
-    name-by t rest h g k = sym (ap (λ (q : TokenRecord). isOf (ofKind (q .kind)) names) h) ∙ sym g ∙ k
+    name-by : (t : Token) (rest : List Token) {y : Bool} → r ≡ recordOf t → y ≡ isOf (tokenOfKind (r .kind)) names → {x : Bool} → y ≡ x → isOf t names ≡ x
+    name-by t rest h g k = sym (ap (λ (q : TokenRecord). isOf (tokenOfKind (q .kind)) names) h) ∙ sym g ∙ k
 
-    pub literal-read : {y : Bool} {bits : ℕ} → y ≡ isOf (ofKind (r .kind)) literals → y ≡ true → bits ≡ bitLength (r .kind) (r .span .len) → ReadLiteral (r .span) bits b ≡ literalAnswer end c ts
+    pub literal-read : {y : Bool} {bits : ℕ} → y ≡ isOf (tokenOfKind (r .kind)) literals → y ≡ true → bits ≡ bitLength (r .kind) (r .span .len) → ReadLiteral (r .span) bits b ≡ literalAnswer end c ts
     unfolding literalAnswer
     literal-read g k l =
         let t = found .0 in
@@ -124,7 +125,7 @@ module _ (end : ℕ) (c : Cursor) {a : Ahead} (ts : List Token) (e : a ≡ peeke
         let is : literalAnswer end c (t ∷ rest) ≡ ReadLiteral (spanOf t) (bitLength (t .kind) (length (t .text))) (stepped c) = rw yes in
         rw (l, found .4) (ap (λ (q : TokenRecord). ReadLiteral (q .span) (bitLength (q .kind) (q .span .len)) (stepped c)) (found .3) ∙ sym is ∙ ap (literalAnswer end c) (sym (found .2)))
 
-    pub literal-other : {y : Bool} {x : ParseRefusal} → y ≡ isOf (ofKind (r .kind)) literals → y ≡ false → x ≡ refusalAt end ParseFailed ts → NoLiteral x ≡ literalAnswer end c ts
+    pub literal-other : {y : Bool} {x : ParseRefusal} → y ≡ isOf (tokenOfKind (r .kind)) literals → y ≡ false → x ≡ refusalAt end ParseFailed ts → NoLiteral x ≡ literalAnswer end c ts
     unfolding literalAnswer
     literal-other g k l =
         let t = found .0 in
@@ -133,7 +134,7 @@ module _ (end : ℕ) (c : Cursor) {a : Ahead} (ts : List Token) (e : a ≡ peeke
         let is : literalAnswer end c (t ∷ rest) ≡ NoLiteral (refusalAt end ParseFailed (t ∷ rest)) = rw no in
         ap NoLiteral (l ∙ ap (refusalAt end ParseFailed) (found .2)) ∙ sym is ∙ ap (literalAnswer end c) (sym (found .2))
 
-    pub hole-read : {y : Bool} → y ≡ isOf (ofKind (r .kind)) names → y ≡ true → Whole (Hole (r .span)) (r .span .start) b ≡ holeHead end c ts
+    pub hole-read : {y : Bool} → y ≡ isOf (tokenOfKind (r .kind)) names → y ≡ true → Whole (Hole (r .span)) (r .span .start) b ≡ holeHead end c ts
     unfolding holeHead
     hole-read g k =
         let t = found .0 in
@@ -142,7 +143,7 @@ module _ (end : ℕ) (c : Cursor) {a : Ahead} (ts : List Token) (e : a ≡ peeke
         let is : holeHead end c (t ∷ rest) ≡ Whole (Hole (spanOf t)) (record { 0 = t .start }) (stepped c) = rw yes in
         rw (found .4) (ap (λ (q : TokenRecord). Whole (Hole (q .span)) (q .span .start) (stepped c)) (found .3) ∙ sym is ∙ ap (holeHead end c) (sym (found .2)))
 
-    pub hole-other : {y : Bool} {x : ParseRefusal} → y ≡ isOf (ofKind (r .kind)) names → y ≡ false → x ≡ refusalAt end ParseFailed ts → NoHead x ≡ holeHead end c ts
+    pub hole-other : {y : Bool} {x : ParseRefusal} → y ≡ isOf (tokenOfKind (r .kind)) names → y ≡ false → x ≡ refusalAt end ParseFailed ts → NoHead x ≡ holeHead end c ts
     unfolding holeHead
     hole-other g k l =
         let t = found .0 in

@@ -7,6 +7,7 @@ use lib.ListN.{length}
 use Rattle.records.specs.Base.{if_then_else_}
 use Rattle.records.specs.TokenKind as token
 use Rattle.records.specs.NodeKind as node
+use Rattle.records.specs.Records.{noSpan}
 use Rattle.records.specs.declared.Span.{Span}
 use Rattle.records.specs.declared.ExprRecord.{ExprRecord}
 use Rattle.records.specs.declared.kinds.NodeKind.{NodeKind}
@@ -26,7 +27,7 @@ use Rattle.grammar.specs.Tree as tree
 use Rattle.grammar.specs.Tree.{nullaryToken, Unary, unaryToken, Binary, binaryToken, Expr}
 use Rattle.grammar.specs.Rule.{Parsed, got, stop, isOf}
 use Rattle.grammar.specs.Grammar.{names, literals, Head, leaf, parens, unary, binary, assertl, assertr}
-use Rattle.grammar.specs.Part.{partOf, weight, nullaryKind, unaryKind, binaryKind, spanOf, noSpan}
+use Rattle.grammar.specs.Part.{partOf, weight, nullaryKind, unaryKind, binaryKind, spanOf}
 use Rattle.grammar.specs.Recorded.{partNo, exprRecords}
 use Rattle.heads.specs.declared.Cmr.the-variants.{Expr as OfExpr, Literal}
 use Rattle.heads.specs.declared.ExprInner.{ExprInner}
@@ -49,34 +50,34 @@ abbrev pub noExpr : ExprNo
 noExpr = record { 0 = 0 }
 
 -- the record of an expression at its place
-abbrev pub recordBy : ExprInner → ByteOffset → ExprRecord
-recordBy (Reference s) at = recordWith (node.number node.ref) at noExpr noExpr s
-recordBy (AssertL e (OfExpr f)) at = recordWith (node.partNumber node.assertl) at e f noSpan
-recordBy (AssertL e (Literal s)) at = recordWith (node.partNumber node.assertl) at e noExpr s
-recordBy (AssertR (OfExpr f) e) at = recordWith (node.partNumber node.assertr) at f e noSpan
-recordBy (AssertR (Literal s) e) at = recordWith (node.partNumber node.assertr) at noExpr e s
-recordBy (Nullary k) at = recordWith (k .0) at noExpr noExpr noSpan
-recordBy (One k e) at = recordWith (k .0) at e noExpr noSpan
-recordBy (Two k l r) at = recordWith (k .0) at l r noSpan
-recordBy (Hole s) at = recordWith (node.partNumber node.hole) at noExpr noExpr s
-recordBy (Fail s) at = recordWith (node.partNumber node.fail) at noExpr noExpr s
-recordBy (Jet s) at = recordWith (node.partNumber node.jet) at noExpr noExpr s
-recordBy (Word s) at = recordWith (node.partNumber node.word) at noExpr noExpr s
+abbrev pub exprRecordBy : ExprInner → ByteOffset → ExprRecord
+exprRecordBy (Reference s) at = recordWith (node.number node.ref) at noExpr noExpr s
+exprRecordBy (AssertL e (OfExpr f)) at = recordWith (node.partNumber node.assertl) at e f noSpan
+exprRecordBy (AssertL e (Literal s)) at = recordWith (node.partNumber node.assertl) at e noExpr s
+exprRecordBy (AssertR (OfExpr f) e) at = recordWith (node.partNumber node.assertr) at f e noSpan
+exprRecordBy (AssertR (Literal s) e) at = recordWith (node.partNumber node.assertr) at noExpr e s
+exprRecordBy (Nullary k) at = recordWith (k .0) at noExpr noExpr noSpan
+exprRecordBy (One k e) at = recordWith (k .0) at e noExpr noSpan
+exprRecordBy (Two k l r) at = recordWith (k .0) at l r noSpan
+exprRecordBy (Hole s) at = recordWith (node.partNumber node.hole) at noExpr noExpr s
+exprRecordBy (Fail s) at = recordWith (node.partNumber node.fail) at noExpr noExpr s
+exprRecordBy (Jet s) at = recordWith (node.partNumber node.jet) at noExpr noExpr s
+exprRecordBy (Word s) at = recordWith (node.partNumber node.word) at noExpr noExpr s
 
 -- ---- what begins an expression
 
 -- an expression of one record
-pub record Leaf (e : Expr) (i : ExprInner) (at : ByteOffset) : Type 0 where
+pub record LeafExpr (e : Expr) (i : ExprInner) (at : ByteOffset) : Type 0 where
   pub one : weight (partOf e) ≡ 1
   pub number : (m : ℕ) → partNo (partOf e) m ≡ m + 1
-  pub row : (m : ℕ) → exprRecords (partOf e) m ≡ recordBy i at ∷ []
+  pub row : (m : ℕ) → exprRecords (partOf e) m ≡ exprRecordBy i at ∷ []
 
 abbrev pub ofPart : node.PartKind → NodeKind
 ofPart k = record { 0 = node.partNumber k }
 
 -- what the grammar says of a head, the cursor c standing before it
 unfoldable pub HeadReads : (source tokens : List ℕ) → (n : ℕ) → Cursor → Parsed Head → ExprHead → Type 0
-HeadReads s t n c P (Whole i at d) = (e : Expr) × (rest : List Token) × (P ≡ got (leaf e) rest) × Leaf e i at × Reached s t n c d rest 0 0
+HeadReads s t n c P (Whole i at d) = (e : Expr) × (rest : List Token) × (P ≡ got (leaf e) rest) × LeafExpr e i at × Reached s t n c d rest 0 0
 HeadReads s t n c P (Parens d) = (rest : List Token) × (P ≡ got parens rest) × Reached s t n c d rest 0 0
 HeadReads s t n c P (UnaryHead k at d) =
     (u : Unary) × (rest : List Token) × (P ≡ got (unary u (at .0)) rest) × (k ≡ ofPart (unaryKind u)) × Reached s t n c d rest 0 0
@@ -116,8 +117,8 @@ failHead at (ReadLiteral s bits c) = testedBy (failVerdict bits) (Fail s) at s c
 failHead at (NoLiteral r) = NoHead r
 
 -- the keywords with nothing but expressions behind them, the last first
-abbrev pub keywords : List token.Kind
-keywords =
+abbrev pub partKeywords : List token.Kind
+partKeywords =
     token.pair ∷ token.comp ∷ token.case ∷ token.disconnect ∷ token.drop ∷ token.take ∷ token.injr ∷ token.injl ∷
     token.witness ∷ token.iden ∷ token.unit ∷ []
 
@@ -126,7 +127,7 @@ unfoldable pub KeywordIs : (k : ℕ) → Keyword → Type 0
 KeywordIs k (NullaryWord n) = (u : tree.Nullary) × (k ≡ token.number (nullaryToken u)) × (n ≡ ofPart (nullaryKind u))
 KeywordIs k (UnaryWord n) = (u : Unary) × (k ≡ token.number (unaryToken u)) × (n ≡ ofPart (unaryKind u))
 KeywordIs k (BinaryWord n) = (u : Binary) × (k ≡ token.number (binaryToken u)) × (n ≡ ofPart (binaryKind u))
-KeywordIs k OtherWord = NotIn (map token.number keywords) k
+KeywordIs k OtherWord = NotIn (map token.number partKeywords) k
 
 unfoldable pub keywordHead : Keyword → ByteOffset → Cursor → ExprHead
 keywordHead (NullaryWord k) at c = Whole (Nullary k) at c

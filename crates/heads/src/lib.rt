@@ -7,12 +7,11 @@ ghost use Rattle.records.specs.Limits.{sourceLimit};
 ghost use Rattle.lex.specs.Tokens.{recordOf};
 ghost use Rattle.checks.specs.Checks.{jetVerdict, checksOf};
 ghost use Rattle.literals.specs.Literals.{spanText};
-ghost use Rattle.cursor.specs.Tokens.{tokenOf, ofKind, tokensLeft};
+ghost use Rattle.cursor.specs.Tokens.{tokenOf, tokenOfKind, tokensLeft};
 ghost use Rattle.cursor.specs.Cursor.{Ready};
 ghost use Rattle.grammar.specs.Rule.{isOf};
 ghost use Rattle.grammar.specs.Grammar.{literals, head};
-ghost use Rattle.grammar.specs.Part.{noSpan};
-ghost use Rattle.heads.specs.Answers.{recordWith, noExpr, recordBy, KeywordIs, keywordHead, testedBy, literalAnswer, holeHead, wordHead, failHead, HeadReads};
+ghost use Rattle.heads.specs.Answers.{recordWith, noExpr, exprRecordBy, KeywordIs, keywordHead, testedBy, literalAnswer, holeHead, wordHead, failHead, HeadReads};
 ghost use Rattle.heads.specs.declared.ExprInner.the-variants.{Jet};
 use checks::Fault;
 use checks::Verdict;
@@ -77,16 +76,6 @@ pub enum Keyword {
     Other,
 }
 
-// A record without a span has 0, 0.
-fn no_span() -> Span
-    ensures { λ r. ⌜ r ≡ noSpan ⌝ }
-{
-    Span {
-        start: ByteOffset(0),
-        len: 0,
-    }
-}
-
 // The record of an expression with parts,
 fn parts_record(kind: u32, at: ByteOffset, left: ExprNo, right: ExprNo, span: Span) -> ExprRecord
     ensures { λ r. ⌜ r ≡ recordWith kind at left right span ⌝ }
@@ -111,21 +100,21 @@ impl ExprInner {
     // The record of an expression at its place. The CMR is the right side of `assertl` and the left one of `assertr`; a literal
     // leaves that side 0 and is the span.
     pub fn record(self, at: ByteOffset) -> ExprRecord
-        ensures { λ r. ⌜ r ≡ recordBy self at ⌝ }
+        ensures { λ r. ⌜ r ≡ exprRecordBy self at ⌝ }
     {
         match self {
             ExprInner::Reference(span) => leaf_record(NodeKind::REFERENCE, at, span),
             ExprInner::AssertL(e, cmr) => match cmr {
-                Cmr::Expr(f) => parts_record(NodeKind::ASSERT_L, at, e, f, no_span()),
+                Cmr::Expr(f) => parts_record(NodeKind::ASSERT_L, at, e, f, records::no_span()),
                 Cmr::Literal(span) => parts_record(NodeKind::ASSERT_L, at, e, ExprNo(0), span),
             },
             ExprInner::AssertR(cmr, e) => match cmr {
-                Cmr::Expr(f) => parts_record(NodeKind::ASSERT_R, at, f, e, no_span()),
+                Cmr::Expr(f) => parts_record(NodeKind::ASSERT_R, at, f, e, records::no_span()),
                 Cmr::Literal(span) => parts_record(NodeKind::ASSERT_R, at, ExprNo(0), e, span),
             },
-            ExprInner::Nullary(kind) => leaf_record(kind.0, at, no_span()),
-            ExprInner::Unary(kind, e) => parts_record(kind.0, at, e, ExprNo(0), no_span()),
-            ExprInner::Binary(kind, l, r) => parts_record(kind.0, at, l, r, no_span()),
+            ExprInner::Nullary(kind) => leaf_record(kind.0, at, records::no_span()),
+            ExprInner::Unary(kind, e) => parts_record(kind.0, at, e, ExprNo(0), records::no_span()),
+            ExprInner::Binary(kind, l, r) => parts_record(kind.0, at, l, r, records::no_span()),
             ExprInner::Hole(span) => leaf_record(NodeKind::HOLE, at, span),
             ExprInner::Fail(span) => leaf_record(NodeKind::FAIL, at, span),
             ExprInner::Jet(span) => leaf_record(NodeKind::JET, at, span),
@@ -136,7 +125,7 @@ impl ExprInner {
 
 // A literal is `_`, binary or hex.
 fn is_literal(kind: TokenKind) -> bool
-    ensures { λ r. ⌜ r ≡ isOf (ofKind kind) literals ⌝ }
+    ensures { λ r. ⌜ r ≡ isOf (tokenOfKind kind) literals ⌝ }
 {
     let k = kind.0;
     (k == TokenKind::UNDERSCORE) | (k == TokenKind::BIN_LITERAL) | (k == TokenKind::HEX_LITERAL)

@@ -23,7 +23,7 @@ use Rattle.lex.specs.declared.LexEnd.the-variants.{Tokens, NoToken, TooM
 use Rattle.lex.specs.declared.Next.{Next}
 use Rattle.lex.specs.declared.Next.the-variants.{Go, End}
 use Rattle.matches.specs.Longest.{lexAt}
-use Rattle.lex.specs.Tokens.{Token, recordOf, Lexing, ends, after, stepBy, lexFrom, lexing, kept, rowsOf, tokenTable}
+use Rattle.lex.specs.Tokens.{Token, recordOf, Lexing, ends, behindTokens, stepBy, lexFrom, lexing, kept, rowsOf, tokenTable}
 use Rattle.lex.specs.Code.{nextOf, tokenRow, tableNext}
 use Rattle.lex.proofs.Steps.{skip-fits, token-fits}
 
@@ -77,7 +77,7 @@ module _ (at count : ℕ) (s : List ℕ) (h : 0 < length s) where
   abbrev pub here : TokenKind → ℕ → Token
   here k n = record { kind = k; start = at; text = take n s }
 
-  pub front-token : (k : TokenKind) (n : ℕ) → 0 < n → count < recordLimit → lexAt s ≡ OfKind k n → lexFrom at 0 count s ≡ after (here k n ∷ []) (lexFrom (at + n) 0 (count + 1) (drop n s))
+  pub front-token : (k : TokenKind) (n : ℕ) → 0 < n → count < recordLimit → lexAt s ≡ OfKind k n → lexFrom at 0 count s ≡ behindTokens (here k n ∷ []) (lexFrom (at + n) 0 (count + 1) (drop n s))
   front-token k n p f e = step ∙ rw (e, lt-ltb count recordLimit f, add-one count, on n (suc count) p)
 
 -- ---- where the loop stands
@@ -87,7 +87,7 @@ pub record Going (s old : List ℕ) (at count : ℕ) (out : List ℕ) : Type 0 w
   pub size : length tokens ≡ count
   pub few : count ≤ recordLimit
   pub is : out ≡ tableOf tokenWidth (rowsOf tokens) old
-  pub rest : lexing s ≡ after tokens (lexFrom at 0 count (drop at s))
+  pub rest : lexing s ≡ behindTokens tokens (lexFrom at 0 count (drop at s))
 
 pub going-start : (s old out : List ℕ) → out ≡ tableOf tokenWidth [] old → Going s old 0 0 out
 going-start s old out e = record { tokens = []; size = refl; few = omega arith; is = e; rest = refl }
@@ -109,7 +109,7 @@ module _ (s old out : List ℕ) (at count : ℕ) (g : Going s old at count out) 
   refused : (e : LexEnd) → ((ts : List Token) → kept e ts ≡ []) → lexFrom at 0 count (drop at s) ≡ ends e → Ends s old e out
   unfolding tokenTable
   refused e k f =
-      let whole : lexing s ≡ after (g .tokens) (ends e) = g .rest ∙ ap (after (g .tokens)) f in
+      let whole : lexing s ≡ behindTokens (g .tokens) (ends e) = g .rest ∙ ap (behindTokens (g .tokens)) f in
       let few : length (rowsOf (g .tokens)) ≤ recordLimit = omega (arith, rows-length (g .tokens), g .size, g .few) in
       record {
         answer = rw whole;
@@ -121,7 +121,7 @@ module _ (s old out : List ℕ) (at count : ℕ) (g : Going s old at count out) 
       let fits = token-fits s at h k n e in
       let len : length (take n (drop at s)) ≡ n = length-take-le n (drop at s) (omega (arith, length-drop at s, fits .1)) in
       let size : length (rowsOf (g .tokens)) ≡ count = rows-length (g .tokens) ∙ g .size in
-      let later : lexFrom at 0 count (drop at s) ≡ after (here at count (drop at s) some k n ∷ []) (lexFrom (at + n) 0 (count + 1) (drop (at + n) s)) =
+      let later : lexFrom at 0 count (drop at s) ≡ behindTokens (here at count (drop at s) some k n ∷ []) (lexFrom (at + n) 0 (count + 1) (drop (at + n) s)) =
       front-token at count (drop at s) some k n (fits .0) f e ∙ rw drop-drop in
       let row : tokenRow k at n ≡ tokenWords (recordOf (here at count (drop at s) some k n)) = rw len in
       let app : written tokenWidth (tableOf tokenWidth (rowsOf (g .tokens)) old) (length (rowsOf (g .tokens)) + 1) (tokenRow k at n) ≡ tableOf tokenWidth (rowsOf (g .tokens) ++ (tokenRow k at n ∷ [])) old =
@@ -131,7 +131,7 @@ module _ (s old out : List ℕ) (at count : ℕ) (g : Going s old at count out) 
           size = length-append (g .tokens) (here at count (drop at s) some k n ∷ []) ∙ omega (arith, g .size);
           few = omega arith;
           is = rw (g .is, ← size, app, row) (ap (λ (x : List (List ℕ)). tableOf tokenWidth x old) (sym (rows-append (g .tokens) (here at count (drop at s) some k n ∷ []))));
-          rest = g .rest ∙ ap (after (g .tokens)) later ∙ rw append-assoc;
+          rest = g .rest ∙ ap (behindTokens (g .tokens)) later ∙ rw append-assoc;
         },
         omega (arith, fits .0),
         fits .1,
@@ -151,7 +151,7 @@ module _ (s old out : List ℕ) (at count : ℕ) (g : Going s old at count out) 
           let fits = skip-fits s at h n e in
           let later : lexFrom at 0 count (drop at s) ≡ lexFrom (at + n) 0 count (drop (at + n) s) =
           front-skip at count (drop at s) some n (fits .0) e ∙ rw drop-drop in (
-            record { tokens = g .tokens; size = g .size; few = g .few; is = g .is; rest = g .rest ∙ ap (after (g .tokens)) later },
+            record { tokens = g .tokens; size = g .size; few = g .few; is = g .is; rest = g .rest ∙ ap (behindTokens (g .tokens)) later },
             omega (arith, fits .0),
             fits .1,
           )
@@ -161,7 +161,7 @@ module _ (s old out : List ℕ) (at count : ℕ) (g : Going s old at count out) 
 pub going-done : (s old out : List ℕ) (at count : ℕ) → Going s old at count out → length s ≤ at → (Tokens count ≡ lexing s .answer) × (out ≡ tokenTable (lexing s) old)
 unfolding lexFrom tokenTable
 going-done s old out at count g h =
-    let whole : lexing s ≡ after (g .tokens) (ends (Tokens count)) = g .rest ∙ rw (drop-of-length-le s h) in
+    let whole : lexing s ≡ behindTokens (g .tokens) (ends (Tokens count)) = g .rest ∙ rw (drop-of-length-le s h) in
     (rw whole, g .is ∙ rw (whole, append-nil))
 
 -- a table that was cleared before

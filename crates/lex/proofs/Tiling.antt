@@ -17,7 +17,7 @@ use Rattle.matches.specs.declared.Lexed.{Lexed}
 use Rattle.matches.specs.declared.Lexed.the-variants.{Token as OfKind, Skip, NoMatch}
 use Rattle.lex.specs.declared.LexEnd.the-variants.{Tokens, NoToken, TooManyTokens}
 use Rattle.matches.specs.Longest.{lexAt}
-use Rattle.lex.specs.Tokens.{Token, Lexing, ends, after, stepBy, lexFrom, lexing}
+use Rattle.lex.specs.Tokens.{Token, Lexing, ends, behindTokens, stepBy, lexFrom, lexing}
 use Rattle.lex.specs.Tiles.{Tiles, end, skip, token, InOrder, Inside}
 use Rattle.matches.proofs.Sizes.{Sized, match-sized}
 use Rattle.lex.proofs.Going.{front-none, front-skip, front-full, front-token}
@@ -125,7 +125,7 @@ few-from at zero count n (b ∷ s) h e = go (lexAt (b ∷ s)) e (λ k c i f. few
     go (Skip m) f again = again (pred m) count h f
     go (OfKind k m) f again = by (ltb count recordLimit) refl f
       where
-        by : (x : Bool) → ltb count recordLimit ≡ x → (if x then after (record { kind = k; start = at; text = take m (b ∷ s) } ∷ []) (lexFrom (suc at) (pred m) (suc count) s) else ends (TooManyTokens (record { 0 = at }))) .answer ≡ Tokens n → n ≤ recordLimit
+        by : (x : Bool) → ltb count recordLimit ≡ x → (if x then behindTokens (record { kind = k; start = at; text = take m (b ∷ s) } ∷ []) (lexFrom (suc at) (pred m) (suc count) s) else ends (TooManyTokens (record { 0 = at }))) .answer ≡ Tokens n → n ≤ recordLimit
         by true x f = again (pred m) (suc count) (omega (arith, ltb-true count recordLimit x)) f
         by false x f = let z : _≡_ {A = ℕ} 0 1 = cc in absurd (omega arith)
 

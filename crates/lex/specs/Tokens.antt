@@ -45,8 +45,8 @@ pub record Lexing : Type 0 where
 abbrev pub ends : LexEnd → Lexing
 ends a = record { tokens = []; answer = a }
 
-abbrev pub after : List Token → Lexing → Lexing
-after ts l = record { tokens = ts ++ l .tokens; answer = l .answer }
+abbrev pub behindTokens : List Token → Lexing → Lexing
+behindTokens ts l = record { tokens = ts ++ l .tokens; answer = l .answer }
 
 -- By what stands at the front of s, at the offset `at`, with `count` tokens before it. `skipped n` and `taken n` are what
 -- follows behind n bytes.
@@ -54,7 +54,7 @@ abbrev pub stepBy : Lexed → (s : List ℕ) → (at count : ℕ) → (skipped t
 stepBy NoMatch s at count skipped taken = ends (NoToken (record { 0 = at }))
 stepBy (Skip n) s at count skipped taken = skipped n
 stepBy (OfKind k n) s at count skipped taken =
-    if ltb count recordLimit then after (record { kind = k; start = at; text = take n s } ∷ []) (taken n)
+    if ltb count recordLimit then behindTokens (record { kind = k; start = at; text = take n s } ∷ []) (taken n)
     else ends (TooManyTokens (record { 0 = at }))
 
 -- s stands at the offset `at`, with `skip` bytes of a match still to pass and `count` tokens before it
@@ -104,16 +104,16 @@ leaves (Ended e) source old = tokenTable (lexing source) old
 
 -- ---- its row, and the count
 
-abbrev pub rowOfEnd : LexEnd → Refusal
-rowOfEnd (Tokens n) = noRow
-rowOfEnd (NoToken at) = rowOf (noToken (at .0))
-rowOfEnd (TooManyTokens at) = rowOf (tooManyTokens (at .0))
+abbrev pub rowOfLexEnd : LexEnd → Refusal
+rowOfLexEnd (Tokens n) = noRow
+rowOfLexEnd (NoToken at) = rowOf (noToken (at .0))
+rowOfLexEnd (TooManyTokens at) = rowOf (tooManyTokens (at .0))
 
 abbrev pub rowOfLex : LexAnswer → Refusal
 rowOfLex ShortTable = rowOf shortTable
 rowOfLex LongSource = rowOf longSource
 rowOfLex (NotUtf8 at) = rowOf (notUtf8 (at .0))
-rowOfLex (Ended e) = rowOfEnd e
+rowOfLex (Ended e) = rowOfLexEnd e
 
 abbrev pub countOfEnd : LexEnd → ℕ
 countOfEnd (Tokens n) = n

@@ -6,8 +6,8 @@ ghost use Rattle.records.specs.Limits.{sourceLimit, recordLimit, tokenWidth};
 ghost use Rattle.tables.specs.Tables.{tableOf, written};
 ghost use lib.ListN.{length, drop};
 ghost use Rattle.matches.specs.Longest.{lexAt};
-ghost use Rattle.records.specs.Refusals.{row as rowWith};
-ghost use Rattle.lex.specs.Tokens.{lexing, tokenTable, lexAll, leaves, rowOfEnd, rowOfLex, countOfEnd, countOf};
+ghost use Rattle.records.specs.Refusals.{refusalRow as rowWith};
+ghost use Rattle.lex.specs.Tokens.{lexing, tokenTable, lexAll, leaves, rowOfLexEnd, rowOfLex, countOfEnd, countOf};
 ghost use Rattle.lex.specs.Code.{nextOf, tokenRow, tableNext};
 use matches::Lexed;
 use records::Span;
@@ -53,7 +53,7 @@ fn row(no: u32, at: ByteOffset) -> Refusal
 impl LexEnd {
     // The end as a row of the table of refusals,
     fn row(self) -> Refusal
-        ensures { λ r. ⌜ r ≡ rowOfEnd self ⌝ }
+        ensures { λ r. ⌜ r ≡ rowOfLexEnd self ⌝ }
     {
         match self {
             LexEnd::Tokens(_) => row(Refusal::NONE, ByteOffset(0)),

@@ -29,7 +29,7 @@ use Rattle.grammar.specs.Tree.{Expr, Arrow, arrowOr, Line, typesOf}
 use Rattle.grammar.specs.Rule.{Parsed, got, stop, goOn, isOf, oneOf, entry, choice}
 use Rattle.grammar.specs.Grammar.{names, expr, arrow, perhapsArrow, defined, declared, line}
 use Rattle.grammar.specs.Part.{partOf, weight, spanOf}
-use Rattle.grammar.specs.Recorded.{partNo, exprRecords, typeWeight, typeNo, typeRecords, linePart, exprsOf, typesIn, lineRecord, lineTypes}
+use Rattle.grammar.specs.Recorded.{partNo, exprRecords, typeWeight, typeNo, typeRecords, linePart, exprsOf, typesInLine, lineRecord, lineTypes}
 use Rattle.arrows.specs.declared.ArrowAnswer.{ArrowAnswer}
 use Rattle.arrows.specs.declared.ArrowAnswer.the-variants.{Read as ReadArrow, Refused as NoArrow}
 use Rattle.arrows.specs.Answers.{arrowRows, orAbsent, ArrowReads}

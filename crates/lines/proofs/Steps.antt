@@ -17,7 +17,7 @@ use Rattle.checks.specs.declared.Fault.the-variants.{ParseFailed}
 use Rattle.cursor.specs.declared.Cursor.{Cursor}
 use Rattle.cursor.specs.declared.Ahead.{Ahead}
 use Rattle.cursor.specs.declared.Ahead.the-variants.{Next, End}
-use Rattle.cursor.specs.Tokens.{tokenAt, ofKind, tokensLeft}
+use Rattle.cursor.specs.Tokens.{tokenAt, tokenOfKind, tokensLeft}
 use Rattle.cursor.specs.Cursor.{refusalAt, stepped, peeked}
 use Rattle.cursor.proofs.Laws.{left-next}
 use Rattle.cursor.proofs.Reached.{some-left}
@@ -75,12 +75,12 @@ module _ (s t : List ℕ) (n : ℕ) (c : Cursor) (a : Ahead) (e : a ≡ peeked c
   unfolding lineHeadBy
   head-end q w f = w ∙ rw (ahead-end c a ts e f)
 
-  module _ (r : TokenRecord) (d : Cursor) (b : Bool) (f : a ≡ Next r d) (named : b ≡ isOf (ofKind (r .kind)) names) where
+  module _ (r : TokenRecord) (d : Cursor) (b : Bool) (f : a ≡ Next r d) (named : b ≡ isOf (tokenOfKind (r .kind)) names) where
     first : (u : Token) × (rest : List Token) × (ts ≡ u ∷ rest) × (r ≡ recordOf u) × (d ≡ stepped c)
     first = ahead-next c a ts r d e f
 
     says : isOf (first .0) names ≡ b
-    says = sym (named ∙ ap (λ (q : TokenRecord). isOf (ofKind (q .kind)) names) (first .3))
+    says = sym (named ∙ ap (λ (q : TokenRecord). isOf (tokenOfKind (q .kind)) names) (first .3))
 
     pub head-name : (h : LineHead) → b ≡ true → h ≡ tailBy (length s) (r .span) d (tokensLeft s t n (d .token .0)) → h ≡ lineHeadBy (length s) c ts
     unfolding lineHeadBy

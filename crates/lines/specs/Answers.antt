@@ -22,7 +22,7 @@ use Rattle.grammar.specs.Tree.{Line}
 use Rattle.grammar.specs.Rule.{Parsed, got, stop, isOf}
 use Rattle.grammar.specs.Grammar.{names}
 use Rattle.grammar.specs.Part.{spanOf}
-use Rattle.grammar.specs.Recorded.{linePart, exprsOf, typesIn, lineRecord, lineTypes}
+use Rattle.grammar.specs.Recorded.{linePart, exprsOf, typesInLine, lineRecord, lineTypes}
 use Rattle.arrows.specs.declared.ArrowAnswer.{ArrowAnswer}
 use Rattle.arrows.specs.declared.ArrowAnswer.the-variants.{Read as ReadArrow, Refused as NoArrow}
 use Rattle.exprs.specs.Answers.{exprRows}
@@ -35,7 +35,7 @@ use Rattle.lines.specs.declared.LineAnswer.the-variants.{Read, Refused}
 -- A refusal leaves the words past the records.
 abbrev pub LineReads : (source tokens : List ℕ) → (n : ℕ) → Cursor → Parsed Line → LineAnswer → (exprs exprs' types types' : List ℕ) → Type 0
 LineReads s t n c (got l rest) r es es' ty ty' =
-    (d : Cursor) × (r ≡ Read (lineRecord l (c .expr .0) (c .ty .0)) d) × Reached s t n c d rest (exprsOf l) (typesIn l) × (c .token .0 < d .token .0)
+    (d : Cursor) × (r ≡ Read (lineRecord l (c .expr .0) (c .ty .0)) d) × Reached s t n c d rest (exprsOf l) (typesInLine l) × (c .token .0 < d .token .0)
     × (es' ≡ filled exprWidth es (c .expr .0) (exprRows (linePart l) (c .expr .0)))
     × (ty' ≡ filled typeWidth ty (c .ty .0) (map typeWords (lineTypes l (c .ty .0))))
 LineReads s t n c (stop x rest) r es es' ty ty' =

@@ -25,7 +25,7 @@ use Rattle.lex.specs.Tokens.{Token, lexing}
 use Rattle.lex.proofs.Tiling.{tiling, tokens-few}
 use Rattle.literals.specs.Literals.{spanText}
 use Rattle.checks.specs.Checks.{Checks, checksOf, refusedAt}
-use Rattle.cursor.specs.Cursor.{placeOf}
+use Rattle.cursor.specs.Cursor.{placeOfLeft}
 use Rattle.grammar.specs.Tree.{Line}
 use Rattle.grammar.specs.Part.{spanOf}
 use Rattle.grammar.specs.Places.{Each, numbered}
@@ -46,7 +46,7 @@ use Rattle.errors.proofs.Weights.{tokensWeigh, errors-weigh, names-weigh, named
 use Rattle.print.specs.Text.{listingLimit}
 use Rattle.rows.specs.Rows.{nameIn}
 use Rattle.rows.proofs.Room.{ChildrenFew, Bounded, refused-fits, listed-fits}
-use Rattle.reader.specs.Reading.{contents, Reading, read, refused, byLines, byTokens, byText, reading, Tables, short, readInto}
+use Rattle.reader.specs.Reading.{contents, Reading, read, refused, byLines, byTokens, byText, reading, Tables, shortToRead, readInto}
 use Rattle.reader.proofs.Fits.{resolved-fit}
 use Rattle.listing.specs.Listing.{listing}
 
@@ -196,7 +196,7 @@ module _ (source jets : List ℕ) where
 
   pub read-within : (old : Tables) → Within source (readInto source jets old)
   unfolding readInto
-  read-within old = go (short old)
+  read-within old = go (shortToRead old)
     where
       go : (b : Bool) → Within source (if b then refused shortTable else reading source jets)
       go true = tt

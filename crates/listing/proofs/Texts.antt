@@ -16,19 +16,19 @@ use Rattle.rows.specs.Rows.{refusedRow}
 use Rattle.rows.specs.Words.{listedAt}
 use Rattle.rows.proofs.Held.{listed-held}
 use Rattle.ends.specs.Rows.{rowOfRead}
-use Rattle.reader.specs.Reading.{Reading, read, refused, Tables, holding, readInto, after, answerOf}
+use Rattle.reader.specs.Reading.{Reading, read, refused, Tables, holding, readInto, readTables, answerOf}
 use Rattle.ends.specs.declared.ReadCounts.{ReadCounts}
 use Rattle.ends.specs.declared.ReadAnswer.{ReadAnswer}
 use Rattle.ends.specs.declared.ReadAnswer.the-variants.{Read, Refused}
 use Rattle.reader.proofs.Answers.{row-is}
-use Rattle.listing.specs.declared.ListAnswer.the-variants.{Listed, NoRoom}
+use Rattle.ends.specs.declared.ListAnswer.the-variants.{Listed, NoRoom}
 use Rattle.listing.specs.Listing.{listing, listAnswer, listedIn}
 use Rattle.listing.specs.Steps.{textOf}
 use Rattle.listing.proofs.Room.{Within, read-within, listing-fits}
 
 -- ---- the text
 
-by-reading : (source : List ℕ) (x : Reading) → Within source x → (old t : Tables) → t ≡ after x old → textOf source (answerOf x) (t .names) (t .nodes) (t .errors) ≡ listing source x
+by-reading : (source : List ℕ) (x : Reading) → Within source x → (old t : Tables) → t ≡ readTables x old → textOf source (answerOf x) (t .names) (t .nodes) (t .errors) ≡ listing source x
 unfolding textOf listing holding
 by-reading source (read c) b old t e =
     listed-held source (t .names) (t .nodes) (t .errors) (c .names) (c .nodes) (c .errors)
@@ -50,11 +50,11 @@ module _ (source jets : List ℕ) (old : Tables) where
   text = listing source (readInto source jets old)
 
   -- the answer and the tables of a reading are listed as it is
-  pub text-is : (r : ReadAnswer) (t : Tables) → r ≡ answerOf (readInto source jets old) → t ≡ after (readInto source jets old) old → textOf source r (t .names) (t .nodes) (t .errors) ≡ text
+  pub text-is : (r : ReadAnswer) (t : Tables) → r ≡ answerOf (readInto source jets old) → t ≡ readTables (readInto source jets old) old → textOf source r (t .names) (t .nodes) (t .errors) ≡ text
   text-is r t er et = rw er (by-reading source (readInto source jets old) (read-within source jets old) old t et)
 
   -- and there is room for it
-  pub text-fits : (r : ReadAnswer) (t : Tables) → r ≡ answerOf (readInto source jets old) → t ≡ after (readInto source jets old) old → length (textOf source r (t .names) (t .nodes) (t .errors)) ≤ listingLimit
+  pub text-fits : (r : ReadAnswer) (t : Tables) → r ≡ answerOf (readInto source jets old) → t ≡ readTables (readInto source jets old) old → length (textOf source r (t .names) (t .nodes) (t .errors)) ≤ listingLimit
   text-fits r t er et = subst (λ (w : List ℕ). length w ≤ listingLimit) (sym (text-is r t er et)) (listing-fits source jets old)
 
 -- what is listed for an answer that is known

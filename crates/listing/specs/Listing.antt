@@ -8,8 +8,8 @@ use Rattle.records.specs.Base.{if_then_else_}
 use Rattle.records.specs.Refusals.{rowOf}
 use Rattle.reader.specs.Reading.{Contents, Reading, read, refused}
 use Rattle.rows.specs.Rows.{listed, refusedRow}
-use Rattle.listing.specs.declared.ListAnswer.{ListAnswer}
-use Rattle.listing.specs.declared.ListAnswer.the-variants.{Listed, NoRoom}
+use Rattle.ends.specs.declared.ListAnswer.{ListAnswer}
+use Rattle.ends.specs.declared.ListAnswer.the-variants.{Listed, NoRoom}
 
 -- nodes, roots and errors, or the row of a refusal
 unfoldable pub listing : (source : List ℕ) → Reading → List ℕ

@@ -4,16 +4,11 @@ ghost use Prim.Native.Nat.{_≤_};
 ghost use lib.Dec.{leb};
 ghost use lib.ListN.{length};
 ghost use Rattle.print.specs.Text.{listingLimit, Puts};
-ghost use Rattle.reader.specs.Reading.{eight, readInto, after};
+ghost use Rattle.reader.specs.Reading.{eight, readInto, readTables};
 ghost use Rattle.listing.specs.Listing.{listing, listAnswer, listedIn};
 ghost use Rattle.listing.specs.Steps.{textOf};
+use ends::ListAnswer;
 use ends::ReadAnswer;
-
-// How many bytes of the output the text has, or that there is no room.
-pub enum ListAnswer {
-    Listed(usize),
-    NoRoom,
-}
 
 // Writes what is listed for an answer and its tables, from the output's start on, as far as there is room; answers how long it is.
 fn list_answer(
@@ -92,7 +87,7 @@ pub fn list(
 ) -> ListAnswer
     ensures answer { λ r. ⌜ r ≡ listAnswer (listing (now (source .entry)) (readInto (now (source .entry)) (now (jets .entry)) (eight (now (tokens .entry)) (now (lines .entry)) (now (exprs .entry)) (now (types .entry)) (now (names .entry)) (now (nodes .entry)) (now (errors .entry)) (now (work .entry))))) (length (now (out .entry))) ⌝ }
     ensures output { λ _. ⌜ now (out .exit) ≡ listedIn (listing (now (source .entry)) (readInto (now (source .entry)) (now (jets .entry)) (eight (now (tokens .entry)) (now (lines .entry)) (now (exprs .entry)) (now (types .entry)) (now (names .entry)) (now (nodes .entry)) (now (errors .entry)) (now (work .entry))))) (now (out .entry)) ⌝ }
-    ensures tables { λ _. ⌜ eight (now (tokens .exit)) (now (lines .exit)) (now (exprs .exit)) (now (types .exit)) (now (names .exit)) (now (nodes .exit)) (now (errors .exit)) (now (work .exit)) ≡ after (readInto (now (source .entry)) (now (jets .entry)) (eight (now (tokens .entry)) (now (lines .entry)) (now (exprs .entry)) (now (types .entry)) (now (names .entry)) (now (nodes .entry)) (now (errors .entry)) (now (work .entry)))) (eight (now (tokens .entry)) (now (lines .entry)) (now (exprs .entry)) (now (types .entry)) (now (names .entry)) (now (nodes .entry)) (now (errors .entry)) (now (work .entry))) ⌝ }
+    ensures tables { λ _. ⌜ eight (now (tokens .exit)) (now (lines .exit)) (now (exprs .exit)) (now (types .exit)) (now (names .exit)) (now (nodes .exit)) (now (errors .exit)) (now (work .exit)) ≡ readTables (readInto (now (source .entry)) (now (jets .entry)) (eight (now (tokens .entry)) (now (lines .entry)) (now (exprs .entry)) (now (types .entry)) (now (names .entry)) (now (nodes .entry)) (now (errors .entry)) (now (work .entry)))) (eight (now (tokens .entry)) (now (lines .entry)) (now (exprs .entry)) (now (types .entry)) (now (names .entry)) (now (nodes .entry)) (now (errors .entry)) (now (work .entry))) ⌝ }
 {
     let answer = reader::read(
         source,

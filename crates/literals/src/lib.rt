@@ -54,7 +54,7 @@ pub fn bit_length(kind: TokenKind, len: u32) -> u32
 }
 
 // a less b, but not below 0.
-fn saturating_sub(a: u8, b: u8) -> u8
+pub fn saturating_sub(a: u8, b: u8) -> u8
     ensures { λ r. ⌜ r ≡ a - b ⌝ }
 {
     if b <= a { a - b } else { 0 }

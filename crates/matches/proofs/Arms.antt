@@ -19,16 +19,16 @@ use Rattle.classes.specs.declared.Class.{Class}
 use Rattle.classes.specs.declared.Class.the-variants.{Byte, Bit, Digit, LowHex, AnyHex, JetPart, SymbolFirst, SymbolPart, NotLf}
 use Rattle.matches.specs.declared.Lexed.{Lexed}
 use Rattle.matches.specs.declared.Lexed.the-variants.{Token, Skip, NoMatch}
-use Rattle.matches.specs.Rows.{Row, row, stop, otherRows, wordRows, Fixed, fixedRow, keywords, jetRow, symbolRow}
-use Rattle.matches.specs.Longest.{runRest, matchLen, best, better, ofKind, made, lenOf, lexAt}
+use Rattle.matches.specs.Rows.{Row, rowOfTable, stop, otherRows, wordRows, Fixed, fixedRow, keywords, jetRow, symbolRow}
+use Rattle.matches.specs.Longest.{runRest, matchLen, best, better, lexedAs, made, lenOf, lexAt}
 use Rattle.matches.specs.Code.{isWord, isJet, named, kindBy, kindOf, keys, NotIn}
 
-colon : (t : List ℕ) → lexAt (58 ∷ t) ≡ (if (eqb (getD t 0 0) 61) then (ofKind token.assign 2) else (ofKind token.colon 1))
+colon : (t : List ℕ) → lexAt (58 ∷ t) ≡ (if (eqb (getD t 0 0) 61) then (lexedAs token.assign 2) else (lexedAs token.colon 1))
 unfolding lexAt best matchLen starts run
 colon [] = refl
 colon (b ∷ t) = go (eqb b 61)
   where
-    go : (q : Bool) → better (some token.assign) (if (q && true) then 2 else 0) (ofKind token.colon 1) ≡ (if q then (ofKind token.assign 2) else (ofKind token.colon 1))
+    go : (q : Bool) → better (some token.assign) (if (q && true) then 2 else 0) (lexedAs token.colon 1) ≡ (if q then (lexedAs token.assign 2) else (lexedAs token.colon 1))
     go true = refl
     go false = refl
 
@@ -45,15 +45,15 @@ differs p b k h e = ne-eqb b k (λ q. let z : true ≡ false = sym h ∙ ap p q 
 symbol-not-lf : (b : ℕ) → has SymbolPart b ≡ true → has NotLf b ≡ true
 symbol-not-lf b h = rw (differs (has SymbolPart) b 10 h refl)
 
-dash : (t : List ℕ) → lexAt (45 ∷ t) ≡ (if (eqb (getD t 0 0) 62) then (ofKind token.arrow 2) else (if (eqb (getD t 0 0) 45) then (Skip (2 + run NotLf (drop 1 t))) else (ofKind token.symbol (1 + run SymbolPart t))))
+dash : (t : List ℕ) → lexAt (45 ∷ t) ≡ (if (eqb (getD t 0 0) 62) then (lexedAs token.arrow 2) else (if (eqb (getD t 0 0) 45) then (Skip (2 + run NotLf (drop 1 t))) else (lexedAs token.symbol (1 + run SymbolPart t))))
 unfolding lexAt best matchLen starts run
 dash [] = refl
 dash (b ∷ t) = go (eqb b 62) refl (eqb b 45) refl
   where
-    rest : (q : Bool) → better none (if (q && true) then (2 + run NotLf t) else 0) (better (some token.symbol) (1 + run SymbolPart (b ∷ t)) NoMatch) ≡ better none (if (q && true) then (2 + run NotLf t) else 0) (ofKind token.symbol (1 + run SymbolPart (b ∷ t)))
+    rest : (q : Bool) → better none (if (q && true) then (2 + run NotLf t) else 0) (better (some token.symbol) (1 + run SymbolPart (b ∷ t)) NoMatch) ≡ better none (if (q && true) then (2 + run NotLf t) else 0) (lexedAs token.symbol (1 + run SymbolPart (b ∷ t)))
     rest q = ap (better none (if (q && true) then (2 + run NotLf t) else 0)) (better-win (some token.symbol) (1 + run SymbolPart (b ∷ t)) NoMatch (omega arith) (omega arith))
 
-    go : (p : Bool) → eqb b 62 ≡ p → (q : Bool) → eqb b 45 ≡ q → lexAt (45 ∷ b ∷ t) ≡ (if p then (ofKind token.arrow 2) else (if q then (Skip (2 + run NotLf t)) else (ofKind token.symbol (1 + run SymbolPart (b ∷ t)))))
+    go : (p : Bool) → eqb b 62 ≡ p → (q : Bool) → eqb b 45 ≡ q → lexAt (45 ∷ b ∷ t) ≡ (if p then (lexedAs token.arrow 2) else (if q then (Skip (2 + run NotLf t)) else (lexedAs token.symbol (1 + run SymbolPart (b ∷ t)))))
     go true e q f = rw (eqb-true b 62 e)
     go false e true f =
         let m = run-mono SymbolPart NotLf symbol-not-lf t in
@@ -61,57 +61,57 @@ dash (b ∷ t) = go (eqb b 62) refl (eqb b 45) refl
         ap (λ (p : Bool). better (some token.arrow) (if (p && true) then 2 else 0) (better none (if ((eqb b 45) && true) then (2 + run NotLf t) else 0) (better (some token.symbol) (1 + run SymbolPart (b ∷ t)) NoMatch))) e
         ∙ ap (λ (q : Bool). better none (if (q && true) then (2 + run NotLf t) else 0) (better (some token.symbol) (1 + run SymbolPart (b ∷ t)) NoMatch)) f
         ∙ rest true
-        ∙ better-win none (2 + run NotLf t) (ofKind token.symbol (1 + run SymbolPart (b ∷ t))) (omega arith) (omega arith)
+        ∙ better-win none (2 + run NotLf t) (lexedAs token.symbol (1 + run SymbolPart (b ∷ t))) (omega arith) (omega arith)
     go false e false f =
         ap (λ (p : Bool). better (some token.arrow) (if (p && true) then 2 else 0) (better none (if ((eqb b 45) && true) then (2 + run NotLf t) else 0) (better (some token.symbol) (1 + run SymbolPart (b ∷ t)) NoMatch))) e
         ∙ ap (λ (q : Bool). better none (if (q && true) then (2 + run NotLf t) else 0) (better (some token.symbol) (1 + run SymbolPart (b ∷ t)) NoMatch)) f
         ∙ rest false
 
-solo : (k : token.Kind) (m : ℕ) (q : Bool) → 0 < m → better (some k) (if q then m else 0) NoMatch ≡ (if q then ofKind k m else NoMatch)
+solo : (k : token.Kind) (m : ℕ) (q : Bool) → 0 < m → better (some k) (if q then m else 0) NoMatch ≡ (if q then lexedAs k m else NoMatch)
 solo k m true h = better-win (some k) m NoMatch h (omega arith)
 solo k m false h = refl
 
-zero-arm : (t : List ℕ) → lexAt (48 ∷ t) ≡ (if (eqb (getD t 0 0) 98) then (if (ltb 0 (run Bit (drop 1 t))) then (ofKind token.bin (2 + run Bit (drop 1 t))) else NoMatch) else (if (eqb (getD t 0 0) 120) then (if (ltb 0 (run LowHex (drop 1 t))) then (ofKind token.hex (2 + run LowHex (drop 1 t))) else NoMatch) else NoMatch))
+zero-arm : (t : List ℕ) → lexAt (48 ∷ t) ≡ (if (eqb (getD t 0 0) 98) then (if (ltb 0 (run Bit (drop 1 t))) then (lexedAs token.bin (2 + run Bit (drop 1 t))) else NoMatch) else (if (eqb (getD t 0 0) 120) then (if (ltb 0 (run LowHex (drop 1 t))) then (lexedAs token.hex (2 + run LowHex (drop 1 t))) else NoMatch) else NoMatch))
 unfolding lexAt best matchLen starts
 zero-arm [] = refl
 zero-arm (b ∷ t) = go (eqb b 98) refl (eqb b 120) refl
   where
-    go : (p : Bool) → eqb b 98 ≡ p → (q : Bool) → eqb b 120 ≡ q → lexAt (48 ∷ b ∷ t) ≡ (if p then (if (ltb 0 (run Bit t)) then (ofKind token.bin (2 + run Bit t)) else NoMatch) else (if q then (if (ltb 0 (run LowHex t)) then (ofKind token.hex (2 + run LowHex t)) else NoMatch) else NoMatch))
+    go : (p : Bool) → eqb b 98 ≡ p → (q : Bool) → eqb b 120 ≡ q → lexAt (48 ∷ b ∷ t) ≡ (if p then (if (ltb 0 (run Bit t)) then (lexedAs token.bin (2 + run Bit t)) else NoMatch) else (if q then (if (ltb 0 (run LowHex t)) then (lexedAs token.hex (2 + run LowHex t)) else NoMatch) else NoMatch))
     go true e q f = rw (eqb-true b 98 e) (ap (λ (m : ℕ). better (some token.bin) m NoMatch) (counted Bit 2 t) ∙ solo token.bin (2 + run Bit t) (ltb 0 (run Bit t)) (omega arith))
     go false e true f = rw (eqb-true b 120 f) (ap (λ (m : ℕ). better (some token.hex) m NoMatch) (counted LowHex 2 t) ∙ solo token.hex (2 + run LowHex t) (ltb 0 (run LowHex t)) (omega arith))
     go false e false f = rw (e, f)
 
-two-arm : (t : List ℕ) → lexAt (50 ∷ t) ≡ (if ((eqb (getD t 0 0) 94) && (within 49 57 (getD t 1 0))) then (ofKind token.power (2 + run Digit (drop 1 t))) else (ofKind token.two 1))
+two-arm : (t : List ℕ) → lexAt (50 ∷ t) ≡ (if ((eqb (getD t 0 0) 94) && (within 49 57 (getD t 1 0))) then (lexedAs token.power (2 + run Digit (drop 1 t))) else (lexedAs token.two 1))
 unfolding lexAt best matchLen starts run
 two-arm [] = refl
 two-arm (b ∷ []) = go (eqb b 94)
   where
-    go : (p : Bool) → better (some token.two) 1 (better (some token.power) (if (p && false) then 3 else 0) NoMatch) ≡ (if (p && false) then (ofKind token.power 2) else (ofKind token.two 1))
+    go : (p : Bool) → better (some token.two) 1 (better (some token.power) (if (p && false) then 3 else 0) NoMatch) ≡ (if (p && false) then (lexedAs token.power 2) else (lexedAs token.two 1))
     go true = refl
     go false = refl
 two-arm (b ∷ d ∷ t) = go (eqb b 94) (within 49 57 d) refl
   where
-    go : (p q : Bool) → within 49 57 d ≡ q → better (some token.two) 1 (better (some token.power) (if (p && (q && true)) then (3 + run Digit t) else 0) NoMatch) ≡ (if (p && q) then (ofKind token.power (2 + run Digit (d ∷ t))) else (ofKind token.two 1))
+    go : (p q : Bool) → within 49 57 d ≡ q → better (some token.two) 1 (better (some token.power) (if (p && (q && true)) then (3 + run Digit t) else 0) NoMatch) ≡ (if (p && q) then (lexedAs token.power (2 + run Digit (d ∷ t))) else (lexedAs token.two 1))
     go true true e =
         let x : 49 ≤ d = within-low 49 57 d e in
         let y : d ≤ 57 = within-high 49 57 d e in
         let z : run Digit (d ∷ t) ≡ suc (run Digit t) = rw (le-leb 48 d (omega arith), le-leb d 57 y) in
         ap (better (some token.two) 1) (better-win (some token.power) (3 + run Digit t) NoMatch (omega arith) (omega arith))
-        ∙ better-lose (some token.two) 1 (ofKind token.power (3 + run Digit t)) (omega arith)
-        ∙ ap (λ (n : ℕ). ofKind token.power n) (omega arith)
+        ∙ better-lose (some token.two) 1 (lexedAs token.power (3 + run Digit t)) (omega arith)
+        ∙ ap (λ (n : ℕ). lexedAs token.power n) (omega arith)
     go true false e = refl
     go false q e = refl
 
-hash : (t : List ℕ) → lexAt (35 ∷ t) ≡ (if (eqb (getD t 0 0) 123) then (ofKind token.hashBrace 2) else (if (leb 64 (run AnyHex t)) then (ofKind token.cmr 65) else NoMatch))
+hash : (t : List ℕ) → lexAt (35 ∷ t) ≡ (if (eqb (getD t 0 0) 123) then (lexedAs token.hashBrace 2) else (if (leb 64 (run AnyHex t)) then (lexedAs token.cmr 65) else NoMatch))
 unfolding lexAt best matchLen starts run
 hash [] = refl
 hash (b ∷ t) = go (eqb b 123) refl
   where
-    long : (q : Bool) → better (some token.cmr) (if q then 65 else 0) NoMatch ≡ (if q then (ofKind token.cmr 65) else NoMatch)
+    long : (q : Bool) → better (some token.cmr) (if q then 65 else 0) NoMatch ≡ (if q then (lexedAs token.cmr 65) else NoMatch)
     long true = refl
     long false = refl
 
-    go : (p : Bool) → eqb b 123 ≡ p → lexAt (35 ∷ b ∷ t) ≡ (if p then (ofKind token.hashBrace 2) else (if (leb 64 (run AnyHex (b ∷ t))) then (ofKind token.cmr 65) else NoMatch))
+    go : (p : Bool) → eqb b 123 ≡ p → lexAt (35 ∷ b ∷ t) ≡ (if p then (lexedAs token.hashBrace 2) else (if (leb 64 (run AnyHex (b ∷ t))) then (lexedAs token.cmr 65) else NoMatch))
     go true e = rw (eqb-true b 123 e)
     go false e =
         ap (λ (p : Bool). better (some token.hashBrace) (if (p && true) then 2 else 0) (better (some token.cmr) (if (starts (replicate 64 AnyHex) (b ∷ t)) then 65 else 0) NoMatch)) e
@@ -222,7 +222,7 @@ jet-symbol b h = go (within 97 122 b) (within 48 57 b) (eqb b 95) h
     go false false false e = let y : _≡_ {A = ℕ} 0 1 = cc in absurd (omega arith)
 
 module _ (s : List ℕ) (N : ℕ) (pos : 0 < N) (is : run SymbolPart s ≡ N) where
-  word-le : (w : List ℕ) (k : Option token.Kind) → all-symbol w ≡ true → matchLen (row k (word w) stop) s ≤ N
+  word-le : (w : List ℕ) (k : Option token.Kind) → all-symbol w ≡ true → matchLen (rowOfTable k (word w) stop) s ≤ N
   unfolding matchLen
   word-le w k a = go (starts (word w) s) refl
     where
@@ -230,7 +230,7 @@ module _ (s : List ℕ) (N : ℕ) (pos : 0 < N) (is : run SymbolPart s ≡ N) wh
       go true e = omega (arith, word-run w s a e, is, length-map w Byte)
       go false e = omega arith
 
-  word-is : (w : List ℕ) (k : Option token.Kind) → eqb (matchLen (row k (word w) stop) s) N ≡ isWord w N s
+  word-is : (w : List ℕ) (k : Option token.Kind) → eqb (matchLen (rowOfTable k (word w) stop) s) N ≡ isWord w N s
   unfolding matchLen isWord
   word-is w k = go (starts (word w) s)
     where
@@ -239,7 +239,7 @@ module _ (s : List ℕ) (N : ℕ) (pos : 0 < N) (is : run SymbolPart s ≡ N) wh
       go false = ne-eqb 0 N (omega arith) ∙ sym (and-false (eqb (length w) N))
 
   kind-step : (k : token.Kind) (j m : ℕ) (q : Bool) → m ≤ N → eqb m N ≡ q → better (some k) m (numbered j N) ≡ numbered (if q then token.number k else j) N
-  kind-step k j m true l e = let z = eqb-true m N e in better-win (some k) m (numbered j N) (omega arith) (omega arith) ∙ ap (ofKind k) z
+  kind-step k j m true l e = let z = eqb-true m N e in better-win (some k) m (numbered j N) (omega arith) (omega arith) ∙ ap (lexedAs k) z
   kind-step k j m false l e = better-lose (some k) m (numbered j N) (omega (arith, eqb-false m N e))
 
   -- the length of a jet, by the run after `jet_`
@@ -348,17 +348,17 @@ module _ (s : List ℕ) (h : 0 < length s) where
         go [] h eb e = absurd (omega arith)
         go (a ∷ t) h eb e = rw (e, eb) (f t)
 
-    pub lex-colon : getD s 0 0 ≡ 58 → lexAt s ≡ (if eqb b 61 then ofKind token.assign 2 else ofKind token.colon 1)
-    lex-colon e = behind 58 (λ b s. if eqb b 61 then ofKind token.assign 2 else ofKind token.colon 1) colon e
+    pub lex-colon : getD s 0 0 ≡ 58 → lexAt s ≡ (if eqb b 61 then lexedAs token.assign 2 else lexedAs token.colon 1)
+    lex-colon e = behind 58 (λ b s. if eqb b 61 then lexedAs token.assign 2 else lexedAs token.colon 1) colon e
 
-    pub lex-dash : getD s 0 0 ≡ 45 → lexAt s ≡ (if eqb b 62 then ofKind token.arrow 2 else (if eqb b 45 then Skip (2 + run NotLf (drop 2 s)) else ofKind token.symbol (1 + run SymbolPart (drop 1 s))))
-    lex-dash e = behind 45 (λ b s. if eqb b 62 then ofKind token.arrow 2 else (if eqb b 45 then Skip (2 + run NotLf (drop 2 s)) else ofKind token.symbol (1 + run SymbolPart (drop 1 s)))) dash e
+    pub lex-dash : getD s 0 0 ≡ 45 → lexAt s ≡ (if eqb b 62 then lexedAs token.arrow 2 else (if eqb b 45 then Skip (2 + run NotLf (drop 2 s)) else lexedAs token.symbol (1 + run SymbolPart (drop 1 s))))
+    lex-dash e = behind 45 (λ b s. if eqb b 62 then lexedAs token.arrow 2 else (if eqb b 45 then Skip (2 + run NotLf (drop 2 s)) else lexedAs token.symbol (1 + run SymbolPart (drop 1 s)))) dash e
 
-    pub lex-zero : getD s 0 0 ≡ 48 → lexAt s ≡ (if eqb b 98 then (if ltb 0 (run Bit (drop 2 s)) then ofKind token.bin (2 + run Bit (drop 2 s)) else NoMatch) else (if eqb b 120 then (if ltb 0 (run LowHex (drop 2 s)) then ofKind token.hex (2 + run LowHex (drop 2 s)) else NoMatch) else NoMatch))
-    lex-zero e = behind 48 (λ b s. if eqb b 98 then (if ltb 0 (run Bit (drop 2 s)) then ofKind token.bin (2 + run Bit (drop 2 s)) else NoMatch) else (if eqb b 120 then (if ltb 0 (run LowHex (drop 2 s)) then ofKind token.hex (2 + run LowHex (drop 2 s)) else NoMatch) else NoMatch)) zero-arm e
+    pub lex-zero : getD s 0 0 ≡ 48 → lexAt s ≡ (if eqb b 98 then (if ltb 0 (run Bit (drop 2 s)) then lexedAs token.bin (2 + run Bit (drop 2 s)) else NoMatch) else (if eqb b 120 then (if ltb 0 (run LowHex (drop 2 s)) then lexedAs token.hex (2 + run LowHex (drop 2 s)) else NoMatch) else NoMatch))
+    lex-zero e = behind 48 (λ b s. if eqb b 98 then (if ltb 0 (run Bit (drop 2 s)) then lexedAs token.bin (2 + run Bit (drop 2 s)) else NoMatch) else (if eqb b 120 then (if ltb 0 (run LowHex (drop 2 s)) then lexedAs token.hex (2 + run LowHex (drop 2 s)) else NoMatch) else NoMatch)) zero-arm e
 
-    pub lex-two : (d : ℕ) → d ≡ getD s 2 0 → getD s 0 0 ≡ 50 → lexAt s ≡ (if eqb b 94 && within 49 57 d then ofKind token.power (2 + run Digit (drop 2 s)) else ofKind token.two 1)
-    lex-two d ed e = behind 50 (λ b s. if eqb b 94 && within 49 57 (getD s 2 0) then ofKind token.power (2 + run Digit (drop 2 s)) else ofKind token.two 1) two-arm e ∙ rw ed
+    pub lex-two : (d : ℕ) → d ≡ getD s 2 0 → getD s 0 0 ≡ 50 → lexAt s ≡ (if eqb b 94 && within 49 57 d then lexedAs token.power (2 + run Digit (drop 2 s)) else lexedAs token.two 1)
+    lex-two d ed e = behind 50 (λ b s. if eqb b 94 && within 49 57 (getD s 2 0) then lexedAs token.power (2 + run Digit (drop 2 s)) else lexedAs token.two 1) two-arm e ∙ rw ed
 
-    pub lex-hash : getD s 0 0 ≡ 35 → lexAt s ≡ (if eqb b 123 then ofKind token.hashBrace 2 else (if leb 64 (run AnyHex (drop 1 s)) then ofKind token.cmr 65 else NoMatch))
-    lex-hash e = behind 35 (λ b s. if eqb b 123 then ofKind token.hashBrace 2 else (if leb 64 (run AnyHex (drop 1 s)) then ofKind token.cmr 65 else NoMatch)) hash e
+    pub lex-hash : getD s 0 0 ≡ 35 → lexAt s ≡ (if eqb b 123 then lexedAs token.hashBrace 2 else (if leb 64 (run AnyHex (drop 1 s)) then lexedAs token.cmr 65 else NoMatch))
+    lex-hash e = behind 35 (λ b s. if eqb b 123 then lexedAs token.hashBrace 2 else (if leb 64 (run AnyHex (drop 1 s)) then lexedAs token.cmr 65 else NoMatch)) hash e

@@ -21,13 +21,13 @@ unfoldable pub matchLen : Row → List ℕ → ℕ
 matchLen r s = if starts (r .fixed) s then length (r .fixed) + runRest (r .rest) (drop (length (r .fixed)) s) else 0
 
 -- n bytes of a kind
-abbrev pub ofKind : token.Kind → ℕ → Lexed
-ofKind k n = Token (record { 0 = token.number k }) n
+abbrev pub lexedAs : token.Kind → ℕ → Lexed
+lexedAs k n = Token (record { 0 = token.number k }) n
 
 -- n bytes of a row: a token, or bytes to skip
 abbrev pub made : Option token.Kind → ℕ → Lexed
 made none n = Skip n
-made (some k) n = ofKind k n
+made (some k) n = lexedAs k n
 
 abbrev pub lenOf : Lexed → ℕ
 lenOf (Token k n) = n

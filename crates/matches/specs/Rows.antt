@@ -21,8 +21,8 @@ pub record Row : Type 0 where
   pub fixed : List Class
   pub rest : Rest
 
-abbrev pub row : Option token.Kind → List Class → Rest → Row
-row k f r = record { kind = k; fixed = f; rest = r }
+abbrev pub rowOfTable : Option token.Kind → List Class → Rest → Row
+rowOfTable k f r = record { kind = k; fixed = f; rest = r }
 
 -- a kind with one text
 pub record Fixed : Type 0 where
@@ -33,7 +33,7 @@ abbrev pub fixed : token.Kind → String → Fixed
 fixed k w = record { kind = k; text = bytes w }
 
 abbrev pub fixedRow : Fixed → Row
-fixedRow f = row (some (f .kind)) (word (f .text)) stop
+fixedRow f = rowOfTable (some (f .kind)) (word (f .text)) stop
 
 abbrev pub punctuation : List Fixed
 punctuation =
@@ -74,23 +74,23 @@ abbrev pub numberRows : List Row
 numberRows =
     fixedRow (fixed token.one "1")
     ∷ fixedRow (fixed token.two "2")
-    ∷ row (some token.power) (word (bytes "2^") ++ (NonZero ∷ [])) (any Digit)
-    ∷ row (some token.bin) (word (bytes "0b") ++ (Bit ∷ [])) (any Bit)
-    ∷ row (some token.hex) (word (bytes "0x") ++ (LowHex ∷ [])) (any LowHex)
-    ∷ row (some token.cmr) (word (bytes "#") ++ replicate 64 AnyHex) stop
+    ∷ rowOfTable (some token.power) (word (bytes "2^") ++ (NonZero ∷ [])) (any Digit)
+    ∷ rowOfTable (some token.bin) (word (bytes "0b") ++ (Bit ∷ [])) (any Bit)
+    ∷ rowOfTable (some token.hex) (word (bytes "0x") ++ (LowHex ∷ [])) (any LowHex)
+    ∷ rowOfTable (some token.cmr) (word (bytes "#") ++ replicate 64 AnyHex) stop
     ∷ []
 
 abbrev pub skipRows : List Row
 skipRows =
-    row none (Blank ∷ []) stop
-    ∷ row none (word (bytes "--")) (any NotLf)
+    rowOfTable none (Blank ∷ []) stop
+    ∷ rowOfTable none (word (bytes "--")) (any NotLf)
     ∷ []
 
 abbrev pub jetRow : Row
-jetRow = row (some token.jet) (word (bytes "jet_") ++ (JetPart ∷ [])) (any JetPart)
+jetRow = rowOfTable (some token.jet) (word (bytes "jet_") ++ (JetPart ∷ [])) (any JetPart)
 
 abbrev pub symbolRow : Row
-symbolRow = row (some token.symbol) (SymbolFirst ∷ []) (any SymbolPart)
+symbolRow = rowOfTable (some token.symbol) (SymbolFirst ∷ []) (any SymbolPart)
 
 -- what a symbol may be as long as; it is the last row
 abbrev pub wordRows : List Row

@@ -12,7 +12,7 @@ use lib.ListN.{length, getD, set, length-append, length-map}
 use Rattle.records.specs.Limits.{recordLimit, exprWidth, nameWidth, errorWidth}
 use Rattle.records.specs.Records.{nameWords, errorWords, exprWords}
 use Rattle.records.specs.ErrorKind as error
-use Rattle.tables.specs.Tables.{tableOf, wordAt, written}
+use Rattle.tables.specs.Tables.{tableOf, wordAt, written, spanAt}
 use Rattle.tables.proofs.Laws.{Wide, wide-map, table-append, table-replace}
 use Rattle.lex.specs.Tokens.{Token}
 use Rattle.literals.specs.Literals.{spanText}
@@ -24,9 +24,9 @@ use Rattle.grammar.specs.Recorded.{partNo, linePart, exprsOf, linesExprs, exprR
 use Rattle.grammar.specs.Places.{Each}
 use Rattle.grammar.proofs.Takes.{total}
 use Rattle.symbols.specs.Symbols.{Text, illegal, findFrom, texts, find}
-use Rattle.names.specs.Names.{namesOf, Placed, placed, numberOf, firstFrom, nameRecord, nameRows, Error, errorRecord, placeOf, repeated, lineErrors, errorsOf, errorRows}
+use Rattle.names.specs.Names.{namesOf, Placed, placed, numberOf, firstFrom, nameRecord, nameRows, Error, errorRecord, partPlace, repeated, lineErrors, errorsOf, errorRows}
 use Rattle.names.specs.Uses.{In}
-use Rattle.symbols.specs.Texts.{spanAt, nameText, textsFrom}
+use Rattle.symbols.specs.Texts.{nameText, textsFrom}
 use Rattle.names.specs.Held.{InPlace, Held}
 use Rattle.names.specs.Code.{nameOf, knownEntry, nameEntry, Enters}
 use Rattle.names.specs.declared.NameCounts.{NameCounts}
@@ -300,12 +300,12 @@ module _ (source exprs oldN oldE : List ℕ) (done rest : List Line) (l : Line) 
             let k : e ≡ suc (e - 1) = omega (arith, z, number-some d (total exprsOf done)) in
             let rows : List (List ℕ) = exprRowsOf (done ++ (l ∷ rest)) in
             let fits : length rows ≤ recordLimit = omega (arith, held .room, length-map (linesExprs (done ++ (l ∷ rest)) 0) exprWords) in
-            let place : placeOf (partOf d) ≡ wordAt exprWidth exprs e 1 =
+            let place : partPlace (partOf d) ≡ wordAt exprWidth exprs e 1 =
             sym (ap (λ (n : ℕ). wordAt exprWidth exprs n 1) k ∙ ap (λ (q : List ℕ). wordAt exprWidth q (suc (e - 1)) 1) (held .table)
             ∙ table-reads exprWidth (held .old) (wide-map exprWidth exprWords (λ a. refl) (linesExprs (done ++ (l ∷ rest)) 0)) fits (e - 1) 1
             ∙ expr-start done rest l d o (e - 1) (sym z ∙ k)) in
-            let q = known-later exprs ns (suc i) (spanOf t) e _ (placeOf (partOf d)) refl not-0 (λ y. omega (arith, y, k)) place ∙ known-is in
-            an-error (record { kind = error.repeated; start = placeOf (partOf d); name = spanOf t }) q (errors-later done l p legal f ∙ ap (λ (q : Option Expr). repeated (some (p .expression)) q t) o) em stay
+            let q = known-later exprs ns (suc i) (spanOf t) e _ (partPlace (partOf d)) refl not-0 (λ y. omega (arith, y, k)) place ∙ known-is in
+            an-error (record { kind = error.repeated; start = partPlace (partOf d); name = spanOf t }) q (errors-later done l p legal f ∙ ap (λ (q : Option Expr). repeated (some (p .expression)) q t) o) em stay
 
       a-known : Going oldN oldE done' r ns' es'
       a-known = by-first (firstFrom 0 done x) refl

@@ -16,12 +16,12 @@ use Rattle.grammar.specs.Rule.{Parsed, got, stop}
 use Rattle.grammar.specs.Grammar.{lines}
 use Rattle.grammar.proofs.Examples as grammar
 use Rattle.symbols.specs.Symbols.{illegal, findFrom, find}
-use Rattle.names.specs.Names.{enter, namesOf, firstFrom, firstExpression, nameRecord, nameRows, typesIn, typesFor, lineErrors, errorsFrom, errorsOf, errorRows}
+use Rattle.names.specs.Names.{enter, namesOf, firstFrom, firstExpression, nameRecord, nameRows, typesOfName, typesFor, lineErrors, errorsFrom, errorsOf, errorRows}
 use Rattle.names.specs.Uses.{Refers, Uses}
 
 -- where `opened` unfolds, all of these compute
 unfoldable pub opened : ℕ
-unfolding grammar.opened illegal findFrom find enter namesOf firstFrom firstExpression nameRecord nameRows typesIn typesFor lineErrors errorsFrom errorRows
+unfolding grammar.opened illegal findFrom find enter namesOf firstFrom firstExpression nameRecord nameRows typesOfName typesFor lineErrors errorsFrom errorRows
 opened = 0
 
 -- the lines of a source that is read, with no jets

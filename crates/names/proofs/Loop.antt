@@ -10,7 +10,7 @@ use Rattle.tables.specs.Tables.{tableOf, wordAt}
 use Rattle.tables.proofs.Laws.{wide-map, table-cleared}
 use Rattle.grammar.specs.Tree.{Line}
 use Rattle.grammar.specs.Part.{spanOf}
-use Rattle.grammar.specs.Recorded.{partNo, linePart, exprsOf, typesIn, lineRecord, lineRecords, lineRows}
+use Rattle.grammar.specs.Recorded.{partNo, linePart, exprsOf, typesInLine, lineRecord, lineRecords, lineRows}
 use Rattle.grammar.proofs.Takes.{total, line-records}
 use Rattle.names.specs.Names.{namesOf, nameRows, errorsFrom, errorRows}
 use Rattle.names.specs.Held.{Held, HeldLines, Entered}
@@ -40,7 +40,7 @@ module _ (source lines exprs oldN oldE : List ℕ) (count : ℕ) (ls : List Line
   unfolding lineRecord
   line-entry done rest l e ns n =
       let fits : length (lineRows ls) ≤ recordLimit = omega (arith, h .held .room, length-map (lineRecords ls 0 0) lineWords, line-records ls 0 0) in
-      let word : (j : ℕ) → wordAt lineWidth lines (suc (length done)) j ≡ getD (lineWords (lineRecord l (total exprsOf done) (total typesIn done))) j 0 =
+      let word : (j : ℕ) → wordAt lineWidth lines (suc (length done)) j ≡ getD (lineWords (lineRecord l (total exprsOf done) (total typesInLine done))) j 0 =
       λ j. ap (λ (q : List ℕ). wordAt lineWidth q (suc (length done)) j) (h .table) ∙ table-reads lineWidth (h .old) (wide-map lineWidth lineWords (λ a. refl) (lineRecords ls 0 0)) fits (length done) j
       ∙ ap (λ (ks : List Line). getD (getD (lineRows ks) (length done) []) j 0) e ∙ ap (λ (r : List ℕ). getD r j 0) (line-row done rest l) in
       line-words source lines exprs ns n (suc (length done)) _ _ _ _ (sym (word 0)) (sym (word 1)) (sym (word 2)) refl

@@ -15,10 +15,10 @@ use Rattle.grammar.specs.Tree as tree
 use Rattle.grammar.specs.Tree.{Expr, Line}
 use Rattle.grammar.specs.Part as part
 use Rattle.grammar.specs.Part.{Part, partOf, weight}
-use Rattle.grammar.specs.Recorded.{partNo, exprRecords, lineRecord, lineRecords, linesExprs, linePart, exprsOf, typesIn, lineRows, exprRowsOf}
+use Rattle.grammar.specs.Recorded.{partNo, exprRecords, lineRecord, lineRecords, linesExprs, linePart, exprsOf, typesInLine, lineRows, exprRowsOf}
 use Rattle.grammar.proofs.Takes.{total, expr-records, line-records, lines-exprs}
 use Rattle.grammar.proofs.Snoc.{Recording, exprs-recording, lines-recording}
-use Rattle.names.specs.Names.{placeOf}
+use Rattle.names.specs.Names.{partPlace}
 
 -- ---- lists
 
@@ -37,7 +37,7 @@ record Outermost (p : Part) (m : ℕ) : Type 0 where
   front : List ExprRecord
   last : ExprRecord
   whole : exprRecords p m ≡ front ++ (last ∷ [])
-  start : last .start .0 ≡ placeOf p
+  start : last .start .0 ≡ partPlace p
   number : partNo p m ≡ suc (m + length front)
 
 outermost : (p : Part) (m : ℕ) → 0 < weight p → Outermost p m
@@ -75,15 +75,15 @@ module _ (done rest : List Line) (l : Line) where
   all = done ++ (l ∷ rest)
 
   -- the row of the line
-  pub line-row : getD (lineRows all) (length done) [] ≡ lineWords (lineRecord l (total exprsOf done) (total typesIn done))
+  pub line-row : getD (lineRows all) (length done) [] ≡ lineWords (lineRecord l (total exprsOf done) (total typesInLine done))
   unfolding lineRecords
   line-row =
-      let e : lineRecords all 0 0 ≡ lineRecords done 0 0 ++ (lineRecord l (total exprsOf done) (total typesIn done) ∷ lineRecords rest (total exprsOf done + exprsOf l) (total typesIn done + typesIn l)) =
-      recorded-append lines-recording done (l ∷ rest) (0, 0) ∙ rw (zero-add (total exprsOf done), zero-add (total typesIn done)) in
+      let e : lineRecords all 0 0 ≡ lineRecords done 0 0 ++ (lineRecord l (total exprsOf done) (total typesInLine done) ∷ lineRecords rest (total exprsOf done + exprsOf l) (total typesInLine done + typesInLine l)) =
+      recorded-append lines-recording done (l ∷ rest) (0, 0) ∙ rw (zero-add (total exprsOf done), zero-add (total typesInLine done)) in
       ap (λ (r : List LineRecord). getD (map lineWords r) (length done) []) e ∙ map-at lineWords (lineRecords done 0 0) _ _ (length done) [] (line-records done 0 0)
 
   -- the place of its expression
-  pub expr-start : (e : Expr) → l .expression ≡ some e → (i : ℕ) → partNo (partOf e) (total exprsOf done) ≡ suc i → getD (getD (exprRowsOf all) i []) 1 0 ≡ placeOf (partOf e)
+  pub expr-start : (e : Expr) → l .expression ≡ some e → (i : ℕ) → partNo (partOf e) (total exprsOf done) ≡ suc i → getD (getD (exprRowsOf all) i []) 1 0 ≡ partPlace (partOf e)
   unfolding linesExprs
   expr-start e some-e i number =
       let m : ℕ = total exprsOf done in

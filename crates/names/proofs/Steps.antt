@@ -12,10 +12,10 @@ use Rattle.records.specs.declared.NameRecord.{NameRecord}
 use Rattle.records.specs.declared.ErrorRecord.{ErrorRecord}
 use Rattle.records.specs.declared.numbers.NameNo.{NameNo}
 use Rattle.cursor.specs.Cursor.{nextNumber}
-use Rattle.tables.specs.Tables.{wordAt, written}
+use Rattle.tables.specs.Tables.{wordAt, written, spanAt}
 use Rattle.literals.specs.Literals.{spanText}
 use Rattle.symbols.specs.Symbols.{Text, illegal, findFrom}
-use Rattle.symbols.specs.Texts.{spanAt, textsFrom}
+use Rattle.symbols.specs.Texts.{textsFrom}
 use Rattle.names.specs.declared.NameCounts.{NameCounts}
 use Rattle.names.specs.declared.Entry.{Entry}
 use Rattle.names.specs.declared.Entry.the-variants.{New, Known, Wrong, Nothing}

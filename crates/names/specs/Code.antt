@@ -11,12 +11,12 @@ use Rattle.records.specs.ErrorKind as error
 use Rattle.records.specs.declared.Span.{Span}
 use Rattle.records.specs.declared.NameRecord.{NameRecord}
 use Rattle.records.specs.declared.ErrorRecord.{ErrorRecord}
-use Rattle.tables.specs.Tables.{wordAt, written}
+use Rattle.tables.specs.Tables.{wordAt, written, spanAt}
 use Rattle.literals.specs.Literals.{spanText}
 use Rattle.cursor.specs.Cursor.{nextNumber}
 use Rattle.symbols.specs.Symbols.{illegal, findFrom}
 use Rattle.names.specs.Names.{errorRecord}
-use Rattle.symbols.specs.Texts.{spanAt, textsFrom}
+use Rattle.symbols.specs.Texts.{textsFrom}
 use Rattle.names.specs.declared.NameCounts.{NameCounts}
 use Rattle.names.specs.declared.Entry.{Entry}
 use Rattle.names.specs.declared.Entry.the-variants.{New, Known, Wrong, Nothing}

@@ -78,16 +78,16 @@ abbrev ifPresent : Ty → List Ty
 ifPresent t = if present t then t ∷ [] else []
 
 -- the present types of the lines that have this name
-unfoldable pub typesIn : (side : Arrow → Ty) → List Line → (name : Text) → List Ty
-typesIn side [] x = []
-typesIn side (l ∷ ls) x =
-    let later : List Ty = typesIn side ls x in
+unfoldable pub typesOfName : (side : Arrow → Ty) → List Line → (name : Text) → List Ty
+typesOfName side [] x = []
+typesOfName side (l ∷ ls) x =
+    let later : List Ty = typesOfName side ls x in
     if same (l .name .text) x then ifPresent (side (typesOf l)) ++ later else later
 
 -- The present types of all the name's legal lines, in line order, those of repeated lines too; `side` takes an arrow's source
 -- or its target.
 unfoldable pub typesFor : (side : Arrow → Ty) → List Line → (name : Text) → List Ty
-typesFor side ls x = if illegal x then [] else typesIn side ls x
+typesFor side ls x = if illegal x then [] else typesOfName side ls x
 
 -- ---- the errors of lines, in line order
 
@@ -101,16 +101,16 @@ abbrev pub errorRecord : Error → ErrorRecord
 errorRecord e = record { kind = record { 0 = error.number (e .kind) }; start = record { 0 = e .start }; name = e .name }
 
 -- where an expression stands
-abbrev pub placeOf : Part → ℕ
-placeOf part.none = 0
-placeOf (part.part k at s l r) = at
-placeOf (part.refer x) = x .start
+abbrev pub partPlace : Part → ℕ
+partPlace part.none = 0
+partPlace (part.part k at s l r) = at
+partPlace (part.refer x) = x .start
 
 -- an expression after the name's first one gives a repeated-name error at that expression's place
 abbrev pub repeated : (first later : Option Expr) → (name : Token) → List Error
 repeated none later x = []
 repeated (some d) none x = []
-repeated (some d) (some e) x = record { kind = error.repeated; start = placeOf (partOf e); name = spanOf x } ∷ []
+repeated (some d) (some e) x = record { kind = error.repeated; start = partPlace (partOf e); name = spanOf x } ∷ []
 
 -- an illegal line gives an illegal-name error at its name; `before` are the lines before
 unfoldable pub lineErrors : (before : List Line) → Line → List Error

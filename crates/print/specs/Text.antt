@@ -20,10 +20,10 @@ unfoldable pub decimal : ℕ → List ℕ
 decimal n = digits 20 n
 
 -- words with a space between them and LF behind: every row ends with LF
-unfoldable pub row : List (List ℕ) → List ℕ
-row [] = bytes "\n"
-row (w ∷ []) = w ++ bytes "\n"
-row (w ∷ v ∷ ws) = w ++ bytes " " ++ row (v ∷ ws)
+unfoldable pub printedRow : List (List ℕ) → List ℕ
+printedRow [] = bytes "\n"
+printedRow (w ∷ []) = w ++ bytes "\n"
+printedRow (w ∷ v ∷ ws) = w ++ bytes " " ++ printedRow (v ∷ ws)
 
 -- a place: line:column
 unfoldable pub placeWord : Position → List ℕ

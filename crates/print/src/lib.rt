@@ -4,7 +4,7 @@ ghost use mathlib.Core.Path.{_≡_};
 ghost use mathlib.Core.List.{[], _∷_};
 ghost use Prim.Native.Nat.{_+_, _≤_, _<_};
 ghost use lib.ListN.{length, set};
-ghost use Rattle.text.specs.Place.{placeOf};
+ghost use Rattle.text.specs.Place.{positionOf};
 ghost use Rattle.print.specs.Text.{digits, decimal, placeWord, listingLimit, Puts};
 
 // No listing has more bytes.
@@ -79,8 +79,8 @@ pub fn put_decimal(out: &mut [u8], at: usize, number: usize) -> usize
 
 // Writes the line and column of an offset.
 pub fn put_place(out: &mut [u8], at: usize, source: &[u8], offset: usize) -> usize
-    requires { ⌜ at + length (placeWord (placeOf (now source) offset)) ≤ listingLimit ⌝ }
-    ensures { λ r. ⌜ Puts (placeWord (placeOf (now (source .entry)) offset)) (now (out .entry)) at (now (out .exit)) r ⌝ }
+    requires { ⌜ at + length (placeWord (positionOf (now source) offset)) ≤ listingLimit ⌝ }
+    ensures { λ r. ⌜ Puts (placeWord (positionOf (now (source .entry)) offset)) (now (out .entry)) at (now (out .exit)) r ⌝ }
 {
     let place = text::offset_to_position(source, offset);
     let at = put_decimal(out, at, place.line);

@@ -32,7 +32,7 @@ use Rattle.walk.specs.Nodes.{walked, nodesOf, nodeRecordsFrom, nodeRecords, nod
 use Rattle.errors.specs.Errors.{allErrors}
 use Rattle.ends.specs.declared.ReadCounts.{ReadCounts}
 use Rattle.ends.specs.Rows.{rowOfRead, countsOfRead}
-use Rattle.reader.specs.Reading.{contents, Reading, read, refused, nothing, byTokens, byText, reading, Tables, eight, shortBy, readInto, holding, afterRefusal, after, rowOfReading, countsOf, countsOfReading, faulty, refusalAnswer, answerOf}
+use Rattle.reader.specs.Reading.{contents, Reading, read, refused, nothing, byTokens, byText, reading, Tables, eight, shortToReadBy, readInto, holding, afterRefusal, readTables, rowOfReading, countsOfContents, countsOfReading, faulty, refusalAnswer, answerOf}
 
 -- ---- an answer says the row and the counts of its reading
 
@@ -102,12 +102,12 @@ lexer-reading source jets ts room = go (ltb sourceLimit (length source)) refl (c
     go false h Valid k = rw (roomy, h, k)
     go false h (BadAt at) k = rw (roomy, h, k)
 
-pub by-lexer : (source jets ts ls es ty ns xs rs ws : List ℕ) → shortBy (length ns) (length xs) (length rs) (length ws) ≡ false
+pub by-lexer : (source jets ts ls es ty ns xs rs ws : List ℕ) → shortToReadBy (length ns) (length xs) (length rs) (length ws) ≡ false
     → readInto source jets (eight ts ls es ty ns xs rs ws) ≡ readingBy source jets (ast.lexAnswer source (ast.tables ts ls es ty))
 unfolding readInto
-by-lexer source jets ts ls es ty ns xs rs ws room = rw room (go (ast.short (ast.tables ts ls es ty)) refl)
+by-lexer source jets ts ls es ty ns xs rs ws room = rw room (go (ast.shortToParse (ast.tables ts ls es ty)) refl)
   where
-    go : (b : Bool) → ast.short (ast.tables ts ls es ty) ≡ b → (if b then refused refusal.shortTable else reading source jets) ≡ readingBy source jets (if b then ShortTable else lexAll source ts)
+    go : (b : Bool) → ast.shortToParse (ast.tables ts ls es ty) ≡ b → (if b then refused refusal.shortTable else reading source jets) ≡ readingBy source jets (if b then ShortTable else lexAll source ts)
     go true e = refl
     go false e = sym (lexer-reading source jets ts (has-room (length ts) (length ls) (length es) (length ty) e .0))
 
@@ -129,7 +129,7 @@ lines-length [] e t = refl
 lines-length (l ∷ ls) e t = ap suc (lines-length ls _ _)
 
 pub counts-held : (ts : List Token) (ls : List Line)
-    → countsOf (contents ts ls) ≡ record { parsed = ast.countsOf ts ls; names = length (namesOf ls); nodes = length (nodesOf ls); errors = length (allErrors ls) }
+    → countsOfContents (contents ts ls) ≡ record { parsed = ast.countsOfLines ts ls; names = length (namesOf ls); nodes = length (nodesOf ls); errors = length (allErrors ls) }
 unfolding contents nameRecords nodeRecords
 counts-held ts ls =
     rw (
@@ -143,7 +143,7 @@ counts-held ts ls =
 pub tables-held : (ts : List Token) (ls : List Line) (old : Tables)
     → holding (contents ts ls) old
     ≡ record {
-      parsed = ast.holding ts ls (old .parsed);
+      parsed = ast.holdingLines ts ls (old .parsed);
       names = tableOf nameWidth (namedRows ls) (old .names);
       nodes = tableOf nodeWidth (nodeRows (nodesOf ls)) (old .nodes);
       errors = tableOf errorWidth (errorRows (allErrors ls)) (old .errors);

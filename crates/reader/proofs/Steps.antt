@@ -16,7 +16,7 @@ use Rattle.names.specs.Names.{namesOf, nameRecord, nameRows, errorsOf}
 use Rattle.names.specs.Held.{HeldLines, Entered}
 use Rattle.names.specs.declared.NameCounts.{NameCounts}
 use Rattle.names.proofs.Laws.{names-few}
-use Rattle.walk.specs.Walk.{Head, Node}
+use Rattle.walk.specs.Walk.{NodeHead, Node}
 use Rattle.walk.specs.Nodes.{nodesOf, namedRows}
 use Rattle.resolve.specs.Resolved.{HeldNames, Resolved}
 use Rattle.errors.specs.Errors.{errorsBy, nodeErrors, allErrors, Appends}
@@ -32,7 +32,7 @@ unfolding nameRows
 rows-few ls = length-map (namesOf ls) (λ (x : Token). nameWords (nameRecord ls 0 x))
 
 -- a node gives one error at most
-one-error : (k : node.Kind) (h : Head) → length (errorsBy k h) ≤ 1
+one-error : (k : node.Kind) (h : NodeHead) → length (errorsBy k h) ≤ 1
 one-error node.missing h = omega arith
 one-error node.noexpr h = omega arith
 one-error node.ref h = omega arith

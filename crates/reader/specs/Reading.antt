@@ -28,7 +28,7 @@ use Rattle.lex.specs.declared.LexEnd.the-variants.{Tokens, NoToken, TooManyToke
 use Rattle.checks.specs.Checks.{refusedAt}
 use Rattle.checks.specs.declared.Fault.{Fault}
 use Rattle.checks.specs.declared.Fault.the-variants.{ParseFailed, BadWordLength, EntropyInsufficient, EntropyTooMuch, UnknownJet, Bad2ExpNumber, NumberOutOfRange, TooDeep}
-use Rattle.cursor.specs.Cursor.{placeOf}
+use Rattle.cursor.specs.Cursor.{placeOfLeft}
 use Rattle.grammar.specs.Tree.{Line}
 use Rattle.grammar.specs.Rule.{Parsed, got, stop}
 use Rattle.grammar.specs.Recorded.{lineRecords, linesExprs, linesTypes}
@@ -80,7 +80,7 @@ pub data Reading : Type 0 where
 -- 6 to 13, the first one met in reading order: at the token that is not accepted, or at end of source
 abbrev pub byLines : (source : List ℕ) → List Token → Parsed (List Line) → Reading
 byLines source ts (got ls rest) = read (contents ts ls)
-byLines source ts (stop x rest) = refused (refusedAt (placeOf (length source) rest) x)
+byLines source ts (stop x rest) = refused (refusedAt (placeOfLeft (length source) rest) x)
 
 -- 4 and 5, whichever is met first from the left; 6 to 13 only when the whole source has lexed
 abbrev pub byTokens : (source jets : List ℕ) → LexEnd → Reading
@@ -102,7 +102,7 @@ reading source jets =
 -- ---- put into eight lent tables
 
 pub record Tables : Type 0 where
-  pub parsed : ast.Tables
+  pub parsed : ast.ParserTables
   pub names : List ℕ
   pub nodes : List ℕ
   pub errors : List ℕ
@@ -112,18 +112,18 @@ abbrev pub eight : (tokens lines exprs types names nodes errors work : List ℕ)
 eight ts ls es ty ns xs rs ws = record { parsed = tables ts ls es ty; names = ns; nodes = xs; errors = rs; work = ws }
 
 -- the four tables behind the parser's have fewer words than 1,024 records
-unfoldable pub shortBy : (names nodes errors work : ℕ) → Bool
-shortBy ns xs rs ws =
+unfoldable pub shortToReadBy : (names nodes errors work : ℕ) → Bool
+shortToReadBy ns xs rs ws =
     (((ltb ns (recordLimit * nameWidth) || ltb xs (recordLimit * nodeWidth)) || ltb rs (recordLimit * errorWidth))
     || ltb ws (recordLimit * workWidth))
 
 -- refusal 1: a lent table has fewer words than 1,024 records
-abbrev pub short : Tables → Bool
-short t = shortBy (length (t .names)) (length (t .nodes)) (length (t .errors)) (length (t .work)) || ast.short (t .parsed)
+abbrev pub shortToRead : Tables → Bool
+shortToRead t = shortToReadBy (length (t .names)) (length (t .nodes)) (length (t .errors)) (length (t .work)) || ast.shortToParse (t .parsed)
 
 -- with lent tables: 1 before all others
 unfoldable pub readInto : (source jets : List ℕ) → Tables → Reading
-readInto source jets old = if short old then refused refusal.shortTable else reading source jets
+readInto source jets old = if shortToRead old then refused refusal.shortTable else reading source jets
 
 -- tables with these records, and with no other; work is zero
 unfoldable pub holding : Contents → Tables → Tables
@@ -159,9 +159,9 @@ afterRefusal (refusal.bigExponent at) old = holding nothing old
 afterRefusal (refusal.tooDeep at) old = holding nothing old
 
 -- the tables after a reading
-abbrev pub after : Reading → Tables → Tables
-after (read c) old = holding c old
-after (refused r) old = afterRefusal r old
+abbrev pub readTables : Reading → Tables → Tables
+readTables (read c) old = holding c old
+readTables (refused r) old = afterRefusal r old
 
 -- ---- its row of the table of refusals, and the counts
 
@@ -170,8 +170,8 @@ rowOfReading (read c) = noRow
 rowOfReading (refused r) = rowOf r
 
 -- how many records there are of each table; work has none
-abbrev pub countsOf : Contents → ReadCounts
-countsOf c =
+abbrev pub countsOfContents : Contents → ReadCounts
+countsOfContents c =
     record {
       parsed = record { tokens = length (c .tokens); lines = length (c .lines); exprs = length (c .exprs); types = length (c .types) };
       names = length (c .names);
@@ -180,8 +180,8 @@ countsOf c =
     }
 
 abbrev pub countsOfReading : Reading → ReadCounts
-countsOfReading (read c) = countsOf c
-countsOfReading (refused r) = countsOf nothing
+countsOfReading (read c) = countsOfContents c
+countsOfReading (refused r) = countsOfContents nothing
 
 -- ---- as the code answers: each layer's refusals in that layer's enum
 
@@ -204,5 +204,5 @@ refusalAnswer (refusal.bigExponent at) = faulty at NumberOutOfRange
 refusalAnswer (refusal.tooDeep at) = faulty at TooDeep
 
 abbrev pub answerOf : Reading → ReadAnswer
-answerOf (read c) = Read (countsOf c)
+answerOf (read c) = Read (countsOfContents c)
 answerOf (refused r) = NotRead (refusalAnswer r)

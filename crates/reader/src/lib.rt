@@ -9,7 +9,7 @@ ghost use Prim.Native.Nat.{ℕ};
 ghost use mathlib.Core.List.{List};
 ghost use Rattle.grammar.specs.Tree.{Line};
 ghost use Rattle.names.specs.Held.{HeldLines};
-ghost use Rattle.reader.specs.Reading.{eight, shortBy, readInto, after, answerOf};
+ghost use Rattle.reader.specs.Reading.{eight, shortToReadBy, readInto, readTables, answerOf};
 ghost use Rattle.reader.specs.Steps.{nextBy, Resolves};
 use ends::Counts;
 use ends::ParseAnswer;
@@ -41,7 +41,7 @@ const WORK_TABLE: usize = Limits::RECORDS as usize * WorkRecord::WORDS as usize;
 
 // Whether a table of so many words is too short for its records.
 fn is_short(names: usize, nodes: usize, errors: usize, work: usize) -> bool
-    ensures { λ r. ⌜ r ≡ shortBy names nodes errors work ⌝ }
+    ensures { λ r. ⌜ r ≡ shortToReadBy names nodes errors work ⌝ }
 {
     (names < NAME_TABLE) | (nodes < NODE_TABLE) | (errors < ERROR_TABLE) | (work < WORK_TABLE)
 }
@@ -118,7 +118,7 @@ pub fn read(
     work: &mut [u32],
 ) -> ReadAnswer
     ensures answer { λ r. ⌜ r ≡ answerOf (readInto (now (source .entry)) (now (jets .entry)) (eight (now (tokens .entry)) (now (lines .entry)) (now (exprs .entry)) (now (types .entry)) (now (names .entry)) (now (nodes .entry)) (now (errors .entry)) (now (work .entry)))) ⌝ }
-    ensures tables { λ _. ⌜ eight (now (tokens .exit)) (now (lines .exit)) (now (exprs .exit)) (now (types .exit)) (now (names .exit)) (now (nodes .exit)) (now (errors .exit)) (now (work .exit)) ≡ after (readInto (now (source .entry)) (now (jets .entry)) (eight (now (tokens .entry)) (now (lines .entry)) (now (exprs .entry)) (now (types .entry)) (now (names .entry)) (now (nodes .entry)) (now (errors .entry)) (now (work .entry)))) (eight (now (tokens .entry)) (now (lines .entry)) (now (exprs .entry)) (now (types .entry)) (now (names .entry)) (now (nodes .entry)) (now (errors .entry)) (now (work .entry))) ⌝ }
+    ensures tables { λ _. ⌜ eight (now (tokens .exit)) (now (lines .exit)) (now (exprs .exit)) (now (types .exit)) (now (names .exit)) (now (nodes .exit)) (now (errors .exit)) (now (work .exit)) ≡ readTables (readInto (now (source .entry)) (now (jets .entry)) (eight (now (tokens .entry)) (now (lines .entry)) (now (exprs .entry)) (now (types .entry)) (now (names .entry)) (now (nodes .entry)) (now (errors .entry)) (now (work .entry)))) (eight (now (tokens .entry)) (now (lines .entry)) (now (exprs .entry)) (now (types .entry)) (now (names .entry)) (now (nodes .entry)) (now (errors .entry)) (now (work .entry))) ⌝ }
 {
     if is_short(names.len(), nodes.len(), errors.len(), work.len()) {
         return ReadAnswer::Refused(ParseAnswer::NotLexed(LexAnswer::ShortTable));

@@ -2,6 +2,7 @@
 use Prim.Native.Nat.{ℕ, zero, suc}
 use mathlib.Core.List.{List, [], _∷_, _++_}
 use Rattle.records.specs.Limits.{tokenWidth, lineWidth, exprWidth, typeWidth, nameWidth, nodeWidth, errorWidth}
+use Rattle.records.specs.declared.Span.{Span}
 use Rattle.records.specs.declared.TokenRecord.{TokenRecord}
 use Rattle.records.specs.declared.LineRecord.{LineRecord}
 use Rattle.records.specs.declared.ExprRecord.{ExprRecord}
@@ -9,6 +10,10 @@ use Rattle.records.specs.declared.TypeRecord.{TypeRecord}
 use Rattle.records.specs.declared.NameRecord.{NameRecord}
 use Rattle.records.specs.declared.NodeRecord.{NodeRecord}
 use Rattle.records.specs.declared.ErrorRecord.{ErrorRecord}
+
+-- the span of what has none
+abbrev pub noSpan : Span
+noSpan = record { start = record { 0 = 0 }; len = 0 }
 
 -- token 3: kind, start, length
 abbrev pub tokenWords : TokenRecord → List ℕ

@@ -19,24 +19,24 @@ pub data Refused : Type 0 where
   tooDeep : (at : ℕ) → Refused
 
 -- a row: No., place, number
-abbrev pub row : (no place value : ℕ) → Refusal
-row n p v = record { no = n; value = v; place = p }
+abbrev pub refusalRow : (no place value : ℕ) → Refusal
+refusalRow n p v = record { no = n; value = v; place = p }
 
 -- the answer is no refusal
 abbrev pub noRow : Refusal
-noRow = row 0 0 0
+noRow = refusalRow 0 0 0
 
 abbrev pub rowOf : Refused → Refusal
-rowOf shortTable = row 1 0 0
-rowOf longSource = row 2 0 0
-rowOf (notUtf8 at) = row 3 at 0
-rowOf (noToken at) = row 4 at 0
-rowOf (tooManyTokens at) = row 5 at 0
-rowOf (parseFailed at) = row 6 at 0
-rowOf (badWordLength at bits) = row 7 at bits
-rowOf (shortFail at bits) = row 8 at bits
-rowOf (longFail at bits) = row 9 at bits
-rowOf (unknownJet at) = row 10 at 0
-rowOf (badPower at exponent) = row 11 at exponent
-rowOf (bigExponent at) = row 12 at 0
-rowOf (tooDeep at) = row 13 at 0
+rowOf shortTable = refusalRow 1 0 0
+rowOf longSource = refusalRow 2 0 0
+rowOf (notUtf8 at) = refusalRow 3 at 0
+rowOf (noToken at) = refusalRow 4 at 0
+rowOf (tooManyTokens at) = refusalRow 5 at 0
+rowOf (parseFailed at) = refusalRow 6 at 0
+rowOf (badWordLength at bits) = refusalRow 7 at bits
+rowOf (shortFail at bits) = refusalRow 8 at bits
+rowOf (longFail at bits) = refusalRow 9 at bits
+rowOf (unknownJet at) = refusalRow 10 at 0
+rowOf (badPower at exponent) = refusalRow 11 at exponent
+rowOf (bigExponent at) = refusalRow 12 at 0
+rowOf (tooDeep at) = refusalRow 13 at 0

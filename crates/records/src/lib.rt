@@ -1,7 +1,7 @@
 // What the numbers mean: the records of the tables, their words, and which word of a record holds what. The kinds, the
 // limits and the types of numbers stand in modules of their own.
 ghost use mathlib.Core.Path.{_≡_};
-ghost use Rattle.records.specs.Records.{tokenWords, lineWords, exprWords, typeWords, nameWords, nodeWords, errorWords, wordPlaces};
+ghost use Rattle.records.specs.Records.{noSpan, tokenWords, lineWords, exprWords, typeWords, nameWords, nodeWords, errorWords, wordPlaces};
 use crate::kinds::ErrorKind;
 use crate::kinds::NodeKind;
 use crate::kinds::TokenKind;
@@ -21,6 +21,16 @@ pub mod refusals;
 pub struct Span {
     pub start: ByteOffset,
     pub len: u32,
+}
+
+// The span of what has none.
+pub fn no_span() -> Span
+    ensures { λ r. ⌜ r ≡ noSpan ⌝ }
+{
+    Span {
+        start: ByteOffset(0),
+        len: 0,
+    }
 }
 
 pub struct TokenRecord {

@@ -23,7 +23,7 @@ use Rattle.lex.specs.declared.LexEnd.the-variants.{Tokens, NoToken, TooManyToke
 use Rattle.matches.specs.Rows.{Row, rows}
 use Rattle.matches.specs.Longest.{made, lexAt}
 use Rattle.matches.specs.Sets.{Front, Among, Lexes, wins, nothing}
-use Rattle.lex.specs.Tokens.{Token, Lexing, after, lexFrom, lexing}
+use Rattle.lex.specs.Tokens.{Token, Lexing, behindTokens, lexFrom, lexing}
 use Rattle.lex.specs.Tiles.{Tiles}
 use Rattle.matches.proofs.Longest.{lexed, lexes-once}
 use Rattle.matches.proofs.Sizes.{Sized, match-sized}
@@ -42,7 +42,7 @@ unmatched-rows s = (λ e. lacks (rw e at (lexed s)), λ f. lexes-once rows s (le
 
     lacks : Lexes rows s NoMatch → (r : Row) → Among r rows → (n : ℕ) → Front r s n → ⊥
     lacks (nothing f) = f
-    lacks (wins before r after n e w is) = absurd (matched (r .kind) n is)
+    lacks (wins before r behindTokens n e w is) = absurd (matched (r .kind) n is)
 
 -- ---- what is lexed is cut
 
@@ -136,7 +136,7 @@ ends-from (suc f) at count (b ∷ s) h c = from-piece f at count (b ∷ s) (omeg
 
 -- ---- what is cut is lexed, up to the rest
 
-pub cut-lexed : {at : ℕ} {front rest : List ℕ} {ts : List Token} → Cut at front rest ts → (count : ℕ) → count + length ts ≤ recordLimit → lexFrom at 0 count (front ++ rest) ≡ after ts (lexFrom (at + length front) 0 (count + length ts) rest)
+pub cut-lexed : {at : ℕ} {front rest : List ℕ} {ts : List Token} → Cut at front rest ts → (count : ℕ) → count + length ts ≤ recordLimit → lexFrom at 0 count (front ++ rest) ≡ behindTokens ts (lexFrom (at + length front) 0 (count + length ts) rest)
 cut-lexed {at} end count h = rw (add-zero at, add-zero count)
 cut-lexed (skip {at} w s {rest} p e r) count h =
     let some : 0 < length (w ++ (s ++ rest)) = simp length-append (omega arith) in

@@ -28,7 +28,7 @@ use Rattle.grammar.specs.Grammar.{literals, lines}
 use Rattle.grammar.specs.Derives.{OneOf, Is}
 use Rattle.grammar.proofs.Deserved.{underived}
 use Rattle.refusals.specs.Refuses as no
-use Rattle.refusals.specs.Refuses.{NoType, NoAtom, NoExpr, NoCmr, NoArrow, NoLine, NoFile, Refused}
+use Rattle.refusals.specs.Refuses.{NoType, NoAtom, NoExpr, NoCmr, NoArrow, NoLine, NoFile, RefusedAt}
 use Rattle.refusals.specs.Events.{stands, Behind, last, Unaccepted, bitsIn, Event}
 use Rattle.refusals.proofs.Stops.{lines-refused}
 use Rattle.refusals.proofs.Exactly.{refused-so, so-refused, never-both}
@@ -189,10 +189,10 @@ no-file-event jets front left x n = go (file-cause (checksOf jets) n) (unaccepte
     go (deep front h) u = h
 
 -- a refusal of the grammar comes exactly by the rules, and then this stands at its place
-pub refused-event : (jets : List ℕ) (ts left : List Token) (x : Fault) → (lines (checksOf jets) ts ≡ stop x left) ↔ Refused (λ front left x. NoFile (checksOf jets) front left x × Event jets front left x) ts left x
+pub refused-event : (jets : List ℕ) (ts left : List Token) (x : Fault) → (lines (checksOf jets) ts ≡ stop x left) ↔ RefusedAt (λ front left x. NoFile (checksOf jets) front left x × Event jets front left x) ts left x
 refused-event jets ts left x = (there, λ r. so-refused (checksOf jets) ts left x (record { front = r .front; split = r .split; rule = r .rule .0 }))
   where
-    there : lines (checksOf jets) ts ≡ stop x left → Refused (λ front left x. NoFile (checksOf jets) front left x × Event jets front left x) ts left x
+    there : lines (checksOf jets) ts ≡ stop x left → RefusedAt (λ front left x. NoFile (checksOf jets) front left x × Event jets front left x) ts left x
     there e =
         let r = refused-so (checksOf jets) ts left x e in
         record { front = r .front; split = r .split; rule = (r .rule, no-file-event jets (r .front) left x (r .rule)) }

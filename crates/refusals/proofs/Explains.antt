@@ -15,7 +15,7 @@ use Rattle.checks.specs.Checks.{Checks}
 use Rattle.grammar.specs.Tree as tree
 use Rattle.grammar.specs.Tree.{Expr, Op, opToken, Ty, Line}
 use Rattle.grammar.specs.Rule.{Parsed, got, stop, Rule, goOn, give, oneOf, expect}
-use Rattle.grammar.specs.Grammar.{names, literals, TypeHead, power, operators, joined, operand, chain, Head, typeHeads, typeHead, atomBy, atom, type, arrow, head, cmrs, cmr, exprBy, expr, arrowIf, perhapsArrow, lineTails, line, another, lines}
+use Rattle.grammar.specs.Grammar.{names, literals, TypeHead, power, operators, withRight, operand, chain, Head, typeHeads, typeHead, atomBy, atom, type, arrow, head, cmrs, cmr, exprBy, expr, arrowIf, perhapsArrow, lineTails, line, another, lines}
 use Rattle.grammar.specs.Derives as is
 use Rattle.grammar.specs.Derives.{Is, IsType, IsExpr, IsLine}
 use Rattle.grammar.proofs.Obeys.{Obeys, obeys-took, all, _▹_, Perhaps, yes, obeys-perhaps, Stepped, more}
@@ -46,7 +46,7 @@ module _ (checks : Checks) where
     unfolding operand
     operand-leaves l = leaves-then (perhaps-leaves operators) go
       where
-        go : (o : Option Op) (us : List Token) → Unless goesOnType o us → Leaving (Unless goesOnType) (joined (atom checks T) l o us)
+        go : (o : Option Op) (us : List Token) → Unless goesOnType o us → Leaving (Unless goesOnType) (withRight (atom checks T) l o us)
         go none us n = leaves n
         go (some q) us n = leaves-then (leaves-any (atom checks T)) (λ r vs m. leaves tt) us
 
@@ -74,7 +74,7 @@ module _ (checks : Checks) where
       unfolding operand
       operand-refuses y = refuses-then (obeys-perhaps {P = λ q t. Is (opToken q) t} operators ((λ t i. i) ▹ (λ t i. i) ▹ all)) (leaves-any _) (refuses-perhaps {M = So y} operators) (λ front left x k. k) (λ q us rest k m. go q us k rest)
         where
-          go : (q : Option Op) (us : List Token) → Perhaps (λ q t. Is (opToken q) t) q us → Refuses (joined (atom checks T) y q) (λ vs. So y (us ++ vs))
+          go : (q : Option Op) (us : List Token) → Perhaps (λ q t. Is (opToken q) t) q us → Refuses (withRight (atom checks T) y q) (λ vs. So y (us ++ vs))
           go q us obey.no rest = fine
           go q us (yes {a = p} {t} i) rest = refuses-map (λ r. some (tree.op p y r)) (λ front left x n us k. no.operand p t k i n) (atom-refuses rest)
 

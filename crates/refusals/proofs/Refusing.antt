@@ -20,7 +20,7 @@ use Rattle.grammar.specs.Grammar.{passed}
 use Rattle.grammar.specs.Derives.{OneOf, Is}
 use Rattle.grammar.proofs.Repeat.{Steps}
 use Rattle.grammar.proofs.Obeys.{Obeys, obeys-took, Each, entry-each}
-use Rattle.refusals.specs.Refuses.{NotNext, end, other, Refused}
+use Rattle.refusals.specs.Refuses.{NotNext, end, other, RefusedAt}
 use Rattle.refusals.proofs.Next.{kindsIn, no-entry}
 
 -- ---- what is left
@@ -101,10 +101,10 @@ pub data Refusing {A : Type 0} (M : List Token → List Token → Fault → Type
 abbrev pub Refuses : {A : Type 0} → Rule A → (List Token → List Token → Fault → Type 0) → Type 0
 Refuses p M = (ts : List Token) → Refusing M ts (p ts)
 
-pub refused-by : {A : Type 0} {M : List Token → List Token → Fault → Type 0} {p : Rule A} → Refuses p M → (ts left : List Token) (x : Fault) → p ts ≡ stop x left → Refused M ts left x
+pub refused-by : {A : Type 0} {M : List Token → List Token → Fault → Type 0} {p : Rule A} → Refuses p M → (ts left : List Token) (x : Fault) → p ts ≡ stop x left → RefusedAt M ts left x
 refused-by {A} {M} {p} h ts left x e = go (rw e at (h ts))
   where
-    go : {ts : List Token} → Refusing {A = A} M ts (stop x left) → Refused M ts left x
+    go : {ts : List Token} → Refusing {A = A} M ts (stop x left) → RefusedAt M ts left x
     go (stops front m) = record { front = front; split = refl; rule = m }
 
 -- by a wider M

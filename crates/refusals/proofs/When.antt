@@ -22,12 +22,12 @@ use Rattle.lex.proofs.Tiling.{tiles-lexed}
 use Rattle.checks.specs.declared.Fault.{Fault}
 use Rattle.checks.specs.declared.Fault.the-variants.{ParseFailed, BadWordLength, EntropyInsufficient, EntropyTooMuch, UnknownJet, Bad2ExpNumber, NumberOutOfRange, TooDeep}
 use Rattle.checks.specs.Checks.{refusedAt, checksOf}
-use Rattle.cursor.specs.Cursor.{placeOf}
+use Rattle.cursor.specs.Cursor.{placeOfLeft}
 use Rattle.grammar.specs.Tree.{Line}
 use Rattle.grammar.specs.Rule.{Parsed, got, stop}
 use Rattle.grammar.specs.Grammar.{lines}
 use Rattle.grammar.proofs.Accepts.{lines-accept, lines-derived}
-use Rattle.reader.specs.Reading.{Contents, contents, Reading, read, refused, byLines, byTokens, byText, reading, Tables, short, readInto}
+use Rattle.reader.specs.Reading.{Contents, contents, Reading, read, refused, byLines, byTokens, byText, reading, Tables, shortToRead, readInto}
 use Rattle.refusals.specs.When.{Small, Valid, Lexed, Stops, When, Accepted}
 use Rattle.refusals.proofs.Events.{refused-event}
 use Rattle.refusals.proofs.Cuts.{no-token-exactly, too-many-exactly, tokens-exactly}
@@ -97,12 +97,12 @@ module _ (source jets : List ℕ) (old : Tables) where
   stops-when TooDeep p s = s
 
   one-holds : (x : Reading) × Condition x
-  one-holds = tables (short old) refl
+  one-holds = tables (shortToRead old) refl
     where
       parsed : (ts : List Token) → Lexed source jets old ts → (r : Parsed (List Line)) → lines (checksOf jets) ts ≡ r → (x : Reading) × Condition x
       parsed ts h (got ls rest) e = (read (contents ts ls), record { tokens = ts; lexed = h; lines = ls; derived = lines-derived (checksOf jets) ts rest ls e .1; said = refl })
       parsed ts h (stop x left) e =
-          let p : ℕ = placeOf (length source) left in
+          let p : ℕ = placeOfLeft (length source) left in
           (refused (refusedAt p x), stops-when x p (record { tokens = ts; lexed = h; left = left; first = refl; rule = refused-event jets ts left x .0 e }))
 
       lexed : Valid source jets old → (a : LexEnd) → lexing source .answer ≡ a → (x : Reading) × Condition x
@@ -114,11 +114,11 @@ module _ (source jets : List ℕ) (old : Tables) where
       text h WellFormed r = lexed (h, r) (lexing source .answer) refl
       text h (BadAt p) r = (refused (refusal.notUtf8 p), (h, r))
 
-      size : short old ≡ false → (b : Bool) → ltb sourceLimit (length source) ≡ b → (x : Reading) × Condition x
+      size : shortToRead old ≡ false → (b : Bool) → ltb sourceLimit (length source) ≡ b → (x : Reading) × Condition x
       size h true e = (refused refusal.longSource, (h, ltb-true sourceLimit (length source) e))
       size h false e = text (h, ltb-false sourceLimit (length source) e) (checkText source) (check-right source)
 
-      tables : (b : Bool) → short old ≡ b → (x : Reading) × Condition x
+      tables : (b : Bool) → shortToRead old ≡ b → (x : Reading) × Condition x
       tables true e = (refused refusal.shortTable, e)
       tables false e = size e (ltb sourceLimit (length source)) refl
 

@@ -112,7 +112,7 @@ module _ (checks : Checks) where
     later : {ts front left : List Token} {l : Line} {x : Fault} → IsLine checks ts l → NotNext (goesOnLine (l .arrow)) (front ++ left) → NoFile front left x → NoFile (ts ++ front) left x
 
 -- some front of the tokens ts is accepted, and then comes the fault x at the first of those left
-pub record Refused (No : (front left : List Token) → Fault → Type 0) (ts left : List Token) (x : Fault) : Type 0 where
+pub record RefusedAt (No : (front left : List Token) → Fault → Type 0) (ts left : List Token) (x : Fault) : Type 0 where
   pub front : List Token
   pub split : ts ≡ front ++ left
   pub rule : No front left x

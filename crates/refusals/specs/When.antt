@@ -13,18 +13,18 @@ use Rattle.lex.specs.Tiles.{Tiles}
 use Rattle.checks.specs.declared.Fault.{Fault}
 use Rattle.checks.specs.declared.Fault.the-variants.{ParseFailed, BadWordLength, EntropyInsufficient, EntropyTooMuch, UnknownJet, Bad2ExpNumber, NumberOutOfRange, TooDeep}
 use Rattle.checks.specs.Checks.{checksOf}
-use Rattle.cursor.specs.Cursor.{placeOf}
+use Rattle.cursor.specs.Cursor.{placeOfLeft}
 use Rattle.grammar.specs.Tree.{Line}
 use Rattle.grammar.specs.Derives.{IsFile}
-use Rattle.reader.specs.Reading.{Contents, contents, Tables, short}
-use Rattle.refusals.specs.Refuses.{NoFile, Refused}
+use Rattle.reader.specs.Reading.{Contents, contents, Tables, shortToRead}
+use Rattle.refusals.specs.Refuses.{NoFile, RefusedAt}
 use Rattle.refusals.specs.Events.{Event}
 use Rattle.refusals.specs.Cuts.{NothingMatches, TokenTooMany}
 
 module _ (source jets : List ℕ) (old : Tables) where
   -- neither 1 nor 2: every table has its 1,024 records, and the source is not too long
   abbrev pub Small : Type 0
-  Small = (short old ≡ false) × (length source ≤ sourceLimit)
+  Small = (shortToRead old ≡ false) × (length source ≤ sourceLimit)
 
   -- nor 3
   abbrev pub Valid : Type 0
@@ -39,12 +39,12 @@ module _ (source jets : List ℕ) (old : Tables) where
     pub tokens : List Token
     pub lexed : Lexed tokens
     pub left : List Token
-    pub first : placeOf (length source) left ≡ place
-    pub rule : Refused (λ front rest y. NoFile (checksOf jets) front rest y × Event jets front rest y) tokens left x
+    pub first : placeOfLeft (length source) left ≡ place
+    pub rule : RefusedAt (λ front rest y. NoFile (checksOf jets) front rest y × Event jets front rest y) tokens left x
 
   abbrev pub When : refusal.Refused → Type 0
-  When refusal.shortTable = short old ≡ true
-  When refusal.longSource = (short old ≡ false) × (sourceLimit < length source)
+  When refusal.shortTable = shortToRead old ≡ true
+  When refusal.longSource = (shortToRead old ≡ false) × (sourceLimit < length source)
   When (refusal.notUtf8 at) = Small × BadPlace source at
   When (refusal.noToken at) = Valid × NothingMatches source at
   When (refusal.tooManyTokens at) = Valid × TokenTooMany source at

@@ -17,7 +17,7 @@ use Rattle.records.specs.Records.{exprWords}
 use Rattle.records.specs.declared.Span.{Span}
 use Rattle.records.specs.declared.ExprRecord.{ExprRecord}
 use Rattle.records.proofs.Widths.{expr-width}
-use Rattle.tables.specs.Tables.{wordAt}
+use Rattle.tables.specs.Tables.{wordAt, spanAt}
 use Rattle.tables.proofs.Words.{word-none}
 use Rattle.tables.proofs.Laws.{wide-map, table-word}
 use Rattle.lex.specs.Tokens.{Token}
@@ -33,11 +33,10 @@ use Rattle.grammar.proofs.Takes.{expr-records}
 use Rattle.symbols.specs.Symbols.{Text, find}
 use Rattle.names.specs.Names.{firstFrom, Placed, placed, orElse, firstExpression, numberOf, namesOf}
 use Rattle.names.specs.Uses.{Refers}
-use Rattle.symbols.specs.Texts.{spanAt}
 use Rattle.names.specs.Held.{InPlace}
 use Rattle.walk.specs.Walk as walk
-use Rattle.walk.specs.Walk.{Head, Tree, noexpr, of}
-use Rattle.walk.specs.Trees.{head, numbered, outermost, treeBy, treeIf, treeOf, recordNo}
+use Rattle.walk.specs.Walk.{NodeHead, Tree, noexpr, of}
+use Rattle.walk.specs.Trees.{head, treeOfPart, outermost, treeBy, treeIf, treeOf, recordNo}
 use Rattle.resolve.specs.Turns.{Given, names-of, total, trees, headAt, usedAt, nameNo, StandsFor}
 
 -- ---- lists
@@ -84,8 +83,8 @@ module _ {source es : List ℕ} {count : ℕ} (w : Given source es count) where
 
   -- A PART STANDS for its tree
   part-stands : (p : Part) (m : ℕ) (pre post : List ExprRecord) → linesExprs (w .lines) 0 ≡ pre ++ (exprRecords p m ++ post) → length pre ≡ m → ((t : Token) → Refers p t → InPlace source t)
-      → StandsFor w (partNo p m) 0 (numbered (names-of w) p)
-  unfolding exprRecords numbered StandsFor Refers weight
+      → StandsFor w (partNo p m) 0 (treeOfPart (names-of w) p)
+  unfolding exprRecords treeOfPart StandsFor Refers weight
   part-stands part.none m pre post e h refs = (refl, refl)
   part-stands (part.refer x) m pre post e h refs =
       let z : m + 1 ≡ suc (length pre) = omega arith in
@@ -103,14 +102,14 @@ module _ {source es : List ℕ} {count : ℕ} (w : Given source es count) where
       let n : ℕ = m + suc (weight l + weight r) in
       let here : linesExprs (w .lines) 0 ≡ (pre ++ (a ++ b)) ++ (x ∷ post) = e ∙ at-last pre a b post x in
       let num : n ≡ suc (length (pre ++ (a ++ b))) = omega (arith, length-append pre (a ++ b), length-append a b, expr-records l m, expr-records r (m + weight l)) in
-      let left : StandsFor w (partNo l m) 0 (numbered (names-of w) l) = part-stands l m pre (b ++ (x ∷ post)) (e ∙ at-first pre a b post x) h (λ t q. refs t (inl q)) in
-      let right : StandsFor w (partNo r (m + weight l)) 0 (numbered (names-of w) r) =
+      let left : StandsFor w (partNo l m) 0 (treeOfPart (names-of w) l) = part-stands l m pre (b ++ (x ∷ post)) (e ∙ at-first pre a b post x) h (λ t q. refs t (inl q)) in
+      let right : StandsFor w (partNo r (m + weight l)) 0 (treeOfPart (names-of w) r) =
       part-stands r (m + weight l) (pre ++ a) (x ∷ post) (e ∙ at-second pre a b post x) (omega (arith, length-append pre a, expr-records l m)) (λ t q. refs t (inr q)) in (
         (λ q. omega arith, expr-word (pre ++ (a ++ b)) post x n 0 here num),
         expr-head (pre ++ (a ++ b)) post x n here num,
         omega arith,
-        subst (λ (i : ℕ). StandsFor w i 0 (numbered (names-of w) l)) (sym (expr-word (pre ++ (a ++ b)) post x n 2 here num)) left,
-        subst (λ (i : ℕ). StandsFor w i 0 (numbered (names-of w) r)) (sym (expr-word (pre ++ (a ++ b)) post x n 3 here num)) right,
+        subst (λ (i : ℕ). StandsFor w i 0 (treeOfPart (names-of w) l)) (sym (expr-word (pre ++ (a ++ b)) post x n 2 here num)) left,
+        subst (λ (i : ℕ). StandsFor w i 0 (treeOfPart (names-of w) r)) (sym (expr-word (pre ++ (a ++ b)) post x n 3 here num)) right,
       )
 
   -- the outermost part of a name
@@ -122,12 +121,12 @@ module _ {source es : List ℕ} {count : ℕ} (w : Given source es count) where
       (s .0, rw (ne-eqb m 0 (λ q. omega arith), ne-eqb e 0 (s .0 .0)) (ap (λ (y : Span). head (nameNo (names-of w) m .start) m y) (span (ne-eqb e 0 (s .0 .0)) (s .1))), b, s .3, s .4)
     where
       span : eqb e 0 ≡ false → headAt w e 0 ≡ h → spanAt exprWidth es e 4 ≡ h .span
-      span q g = (rw q) ∙ ap (λ (y : Head). y .span) g
+      span q g = (rw q) ∙ ap (λ (y : NodeHead). y .span) g
   outer-stands e m (walk.refer h u) a b d s =
       (s .0, s .1, rw (ne-eqb m 0 (λ q. omega arith), ne-eqb e 0 (s .0)) (ap (λ (y : Span). head (nameNo (names-of w) m .start) m y) (span (ne-eqb e 0 (s .0)) (s .2))), b, s .4)
     where
       span : eqb e 0 ≡ false → headAt w e 0 ≡ h → spanAt exprWidth es e 4 ≡ h .span
-      span q g = (rw q) ∙ ap (λ (y : Head). y .span) g
+      span q g = (rw q) ∙ ap (λ (y : NodeHead). y .span) g
 
 -- ---- where a first expression stands
 
@@ -171,8 +170,8 @@ first-sits source (l ∷ ls) e x p h q = go (λ f. first-sits source ls (e + exp
     go ih true (some y) f g = found y f g
 
 -- an expression has a tree
-part-some : (ns : List Token) (e : Expr) → numbered ns (partOf e) ≡ walk.none → ⊥
-unfolding partOf numbered
+part-some : (ns : List Token) (e : Expr) → treeOfPart ns (partOf e) ≡ walk.none → ⊥
+unfolding partOf treeOfPart
 part-some ns (tree.nullary k at) q = let z : _≡_ {A = ℕ} 0 1 = cc in omega arith
 part-some ns (tree.unary k at e) q = let z : _≡_ {A = ℕ} 0 1 = cc in omega arith
 part-some ns (tree.binary k at l r) q = let z : _≡_ {A = ℕ} 0 1 = cc in omega arith
@@ -215,5 +214,5 @@ tree-stands {source} {es} {count} w m a b =
     go (some p) e =
         let s = first-sits source (w .lines) 0 x p (w .held .references) e in
         unfold firstExpression treeBy in rw e
-        (outer-stands w (partNo (partOf (p .expression)) (p .before)) m (numbered (names-of w) (partOf (p .expression))) a b (part-some (names-of w) (p .expression))
+        (outer-stands w (partNo (partOf (p .expression)) (p .before)) m (treeOfPart (names-of w) (partOf (p .expression))) a b (part-some (names-of w) (p .expression))
         (part-stands w (partOf (p .expression)) (p .before) (s .pre) (s .post) (s .whole) (sym (s .number ∙ omega arith)) (s .refs)))

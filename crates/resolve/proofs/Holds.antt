@@ -12,15 +12,15 @@ use Rattle.records.specs.Limits.{recordLimit, exprWidth, nameWidth, nodeWidth, 
 use Rattle.records.specs.NodeKind as node
 use Rattle.records.specs.Records.{nodeWords}
 use Rattle.records.specs.declared.NodeRecord.{NodeRecord}
-use Rattle.tables.specs.Tables.{wordAt, written, beyond}
+use Rattle.tables.specs.Tables.{wordAt, written, beyond, spanAt}
 use Rattle.literals.specs.Literals.{spanText}
 use Rattle.cursor.specs.Cursor.{nextNumber}
 use Rattle.grammar.specs.Part.{spanOf}
 use Rattle.symbols.specs.Symbols.{Text, texts, find, findFrom}
 use Rattle.names.specs.Names.{firstFrom, numberOf}
-use Rattle.symbols.specs.Texts.{spanAt, textsFrom}
+use Rattle.symbols.specs.Texts.{textsFrom}
 use Rattle.names.proofs.Laws.{names-few, find-is, find-first, find-stands, texts-length}
-use Rattle.walk.specs.Walk.{Head, Node, Status, fresh, begun, finished, State, marked, mark, finish, resolve}
+use Rattle.walk.specs.Walk.{NodeHead, Node, Status, fresh, begun, finished, State, marked, mark, finish, resolve}
 use Rattle.walk.specs.Nodes.{nodeRecord}
 use Rattle.walk.proofs.Basics.{same?, marked-same, marked-other, length-snoc}
 use Rattle.resolve.specs.Words.{usedIn, placeIn, spanIn, nodeIn, nodesWith, statusWord, namesWith, finishedNode, referenceKind, begunWord}
@@ -49,7 +49,7 @@ word-fresh begun h e = absurd (omega arith)
 word-fresh (finished i) h e = let a = h i refl in absurd (omega arith)
 
 -- the node of a reference, by its name's status word
-pub resolved : (h : Head) (v : Status) → ((i : ℕ) → v ≡ finished i → (1 ≤ i) × (i ≤ recordLimit)) → (w : ℕ) → w ≡ statusWord v
+pub resolved : (h : NodeHead) (v : Status) → ((i : ℕ) → v ≡ finished i → (1 ≤ i) × (i ≤ recordLimit)) → (w : ℕ) → w ≡ statusWord v
     → (referenceKind (finishedNode w) ≡ node.number (resolve h v .kind)) × (finishedNode w ≡ resolve h v .left) × (resolve h v .right ≡ 0) × (resolve h v .head ≡ h)
 resolved h fresh k w e = (rw e, rw e, refl, refl)
 resolved h begun k w e = (rw e, rw e, refl, refl)
@@ -110,8 +110,8 @@ module _ {source es : List ℕ} {count : ℕ} (w : Given source es count) where
     node-is : (x : Node) (k e n l r : ℕ) → Named w e n → k ≡ node.number (x .kind) → headAt w e n ≡ x .head → l ≡ x .left → r ≡ x .right → nodeIn es nm k e n l r ≡ nodeRecord x 0
     unfolding headAt
     node-is x k e n l r f hk hh hl hr =
-        rw (place-is e n f ∙ ap (λ (y : Head). y .start) hh, span-is e n f ∙ ap (λ (y : Head). y .span) hh, hk, hl, hr)
-        (ap {B = NodeRecord} (λ i. record { kind = record { 0 = node.number (x .kind) }; start = record { 0 = x .head .start }; name = record { 0 = i }; left = record { 0 = x .left }; right = record { 0 = x .right }; span = x .head .span; «in_degree» = 0 }) (ap (λ (y : Head). y .name) hh))
+        rw (place-is e n f ∙ ap (λ (y : NodeHead). y .start) hh, span-is e n f ∙ ap (λ (y : NodeHead). y .span) hh, hk, hl, hr)
+        (ap {B = NodeRecord} (λ i. record { kind = record { 0 = node.number (x .kind) }; start = record { 0 = x .head .start }; name = record { 0 = i }; left = record { 0 = x .left }; right = record { 0 = x .right }; span = x .head .span; «in_degree» = 0 }) (ap (λ (y : NodeHead). y .name) hh))
 
     pub holds-node : (x : Node) (nd' : List ℕ) (k e n l r : ℕ) → length (s .nodes) < recordLimit → Named w e n → k ≡ node.number (x .kind) → headAt w e n ≡ x .head → l ≡ x .left → r ≡ x .right
         → nd' ≡ nodesWith es nm nd c k e n l r → Holds w (nextNumber c) d nm nd' wk (finish x s .state) ks

@@ -8,7 +8,7 @@ use lib.ListN.{length, getD, set}
 use Rattle.records.specs.Limits.{recordLimit, nameWidth}
 use Rattle.records.specs.Records.{nameWords}
 use Rattle.records.specs.declared.Span.{Span}
-use Rattle.tables.specs.Tables.{tableOf, wordAt, written}
+use Rattle.tables.specs.Tables.{tableOf, wordAt, written, spanAt}
 use Rattle.tables.proofs.Laws.{Wide, none, more, table-word, table-replace}
 use Rattle.lex.specs.Tokens.{Token}
 use Rattle.literals.specs.Literals.{spanText}
@@ -19,7 +19,7 @@ use Rattle.grammar.proofs.Records.{each-back}
 use Rattle.symbols.specs.Symbols.{Text, texts}
 use Rattle.names.specs.Names.{namesOf, nameRecord, firstFrom, numberOf}
 use Rattle.names.specs.Uses.{In}
-use Rattle.symbols.specs.Texts.{spanAt, nameText, textsFrom}
+use Rattle.symbols.specs.Texts.{nameText, textsFrom}
 use Rattle.names.specs.Held.{InPlace}
 use Rattle.names.proofs.Laws.{named}
 use Rattle.walk.specs.Walk.{Status, marked}

@@ -11,13 +11,12 @@ use lib.Dec.{eqb, leb}
 use borrow.Author.Tests.{eq-eqb, ne-eqb, le-leb, leb-false}
 use Rattle.records.specs.Base.{within}
 use Rattle.records.specs.Limits.{recordLimit, nodeWidth}
-use Rattle.records.specs.Records.{nodeWords}
+use Rattle.records.specs.Records.{noSpan, nodeWords}
 use Rattle.records.specs.NodeKind as node
 use Rattle.records.specs.declared.NodeRecord.{NodeRecord}
 use Rattle.records.proofs.Choices.{within-low, within-high}
 use Rattle.tables.specs.Tables.{tableOf, wordAt, written}
 use Rattle.tables.proofs.Laws.{Wide, none, more, table-word, table-replace}
-use Rattle.grammar.specs.Part.{noSpan}
 use Rattle.walk.specs.Walk.{Node}
 use Rattle.walk.specs.Nodes.{inDegree, oneIf, nodeRecord, nodeRecordsFrom, nodeRecords, nodeRows}
 use Rattle.walk.proofs.Basics.{same?}

@@ -11,10 +11,10 @@ use Rattle.records.specs.NodeKind as node
 use Rattle.records.specs.Records.{nameWords, nodeWords}
 use Rattle.records.specs.declared.Span.{Span}
 use Rattle.records.specs.declared.NodeRecord.{NodeRecord}
-use Rattle.tables.specs.Tables.{wordAt, written}
+use Rattle.tables.specs.Tables.{wordAt, written, spanAt}
 use Rattle.literals.specs.Literals.{spanText}
 use Rattle.symbols.specs.Symbols.{findFrom}
-use Rattle.symbols.specs.Texts.{spanAt, textsFrom}
+use Rattle.symbols.specs.Texts.{textsFrom}
 use Rattle.resolve.specs.Words.{usedIn, kindIn, spanIn, placeIn, finishedNode, referenceKind, begunWord, oneMore, nodeAt, withParent, bumped, namesWith}
 
 pub finished-begun : {w : ℕ} → w ≡ begunWord → 0 ≡ finishedNode w

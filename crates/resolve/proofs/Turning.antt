@@ -15,7 +15,7 @@ use Rattle.records.proofs.Choices.{and-left, and-right}
 use Rattle.tables.specs.Tables.{wordAt, written}
 use Rattle.tables.proofs.Words.{word-none}
 use Rattle.cursor.specs.Cursor.{nextNumber}
-use Rattle.walk.specs.Walk.{Head, Own, noexpr, of, ownKind, Tree, none, part, refer, Node, Status, fresh, begun, finished, mark, resolve, ready}
+use Rattle.walk.specs.Walk.{NodeHead, Own, noexpr, of, ownKind, Tree, none, part, refer, Node, Status, fresh, begun, finished, mark, resolve, ready}
 use Rattle.walk.proofs.Basics.{ready-true, ready-intro, not-begun-done, part-number}
 use Rattle.walk.proofs.Machine.{room-down, room-up}
 use Rattle.resolve.specs.declared.StackItem.{StackItem}
@@ -92,7 +92,7 @@ down-part source es count g p nm nd wk wk' k i e u t hk nk hi hw he hp w (down (
 
 -- what a reference stands for
 at-refer : {source es : List ℕ} {count : ℕ} (w : Given source es count) (e n : ℕ) (t : Tree) → wordAt exprWidth es e 0 ≡ 3 → StandsFor w e n t
-    → (h : Head) × (m : ℕ) × (t ≡ refer h m) × (e ≢ 0) × (headAt w e n ≡ h) × (n ≤ total w) × (usedAt w e ≡ m)
+    → (h : NodeHead) × (m : ℕ) × (t ≡ refer h m) × (e ≢ 0) × (headAt w e n ≡ h) × (n ≤ total w) × (usedAt w e ≡ m)
 unfolding StandsFor
 at-refer {source} {es} w e n none k s = absurd (omega (arith, word-none exprWidth es 0 0 refl, ap (λ (x : ℕ). wordAt exprWidth es x 0) (s .0), k))
 at-refer {source} {es} w e n (part noexpr h l r) k s = absurd (omega (arith, word-none exprWidth es 0 0 refl, ap (λ (x : ℕ). wordAt exprWidth es x 0) (s .0 .0), k))
@@ -109,7 +109,7 @@ refer-begin source es count g q nm nd wk nm' wk' m v i e u k3 hm hv fr hi hw he 
 refer-begin source es count g q nm nd wk nm' wk' m v i e u k3 hm hv fr hi hw he hn hq w (down t s ks) r f = go t (r .1) f (at-refer w (g .expr .0) (g .name .0) t k3 (r .1))
   where
     go : (t : Tree) → StandsFor w (g .expr .0) (g .name .0) t → Fits w (down t s ks)
-        → (h : Head) × (m₁ : ℕ) × (t ≡ refer h m₁) × (g .expr .0 ≢ 0) × (headAt w (g .expr .0) (g .name .0) ≡ h) × (g .name .0 ≤ total w) × (usedAt w (g .expr .0) ≡ m₁)
+        → (h : NodeHead) × (m₁ : ℕ) × (t ≡ refer h m₁) × (g .expr .0 ≢ 0) × (headAt w (g .expr .0) (g .name .0) ≡ h) × (g .name .0 ≤ total w) × (usedAt w (g .expr .0) ≡ m₁)
         → Reads w q nm' nd wk' (step (trees w) (total w) (down t s ks))
     go t st ft a = subst (λ (y : Tree). Fits w (down y s ks) → Reads w q nm' nd wk' (step (trees w) (total w) (down y s ks))) (sym (a .2 ∙ ap {B = Tree} (λ x. refer (a .0) x) (sym m-is))) main ft
       where
@@ -160,7 +160,7 @@ refer-node source es count g q nm nd wk nd' m v i l k u k3 hm hv fr hl hk hn hi 
 refer-node source es count g q nm nd wk nd' m v i l k u k3 hm hv fr hl hk hn hi hq w (down t s ks) r f = go t (r .1) f (at-refer w (g .expr .0) (g .name .0) t k3 (r .1))
   where
     go : (t : Tree) → StandsFor w (g .expr .0) (g .name .0) t → Fits w (down t s ks)
-        → (h : Head) × (m₁ : ℕ) × (t ≡ refer h m₁) × (g .expr .0 ≢ 0) × (headAt w (g .expr .0) (g .name .0) ≡ h) × (g .name .0 ≤ total w) × (usedAt w (g .expr .0) ≡ m₁)
+        → (h : NodeHead) × (m₁ : ℕ) × (t ≡ refer h m₁) × (g .expr .0 ≢ 0) × (headAt w (g .expr .0) (g .name .0) ≡ h) × (g .name .0 ≤ total w) × (usedAt w (g .expr .0) ≡ m₁)
         → Reads w q nm nd' wk (step (trees w) (total w) (down t s ks))
     go t st ft a = subst (λ (y : Tree). Fits w (down y s ks) → Reads w q nm nd' wk (step (trees w) (total w) (down y s ks))) (sym (a .2 ∙ ap {B = Tree} (λ x. refer (a .0) x) (sym m-is))) main ft
       where

@@ -10,16 +10,15 @@ use Rattle.records.specs.Base.{if_then_else_}
 use Rattle.records.specs.Limits.{recordLimit, exprWidth, nameWidth, nodeWidth, workWidth}
 use Rattle.records.specs.NodeKind as node
 use Rattle.records.specs.Records.{nameWords, nodeWords}
-use Rattle.tables.specs.Tables.{tableOf, wordAt, beyond}
+use Rattle.tables.specs.Tables.{tableOf, wordAt, beyond, spanAt}
 use Rattle.lex.specs.Tokens.{Token}
 use Rattle.literals.specs.Literals.{spanText}
 use Rattle.grammar.specs.Tree.{Line}
 use Rattle.grammar.specs.Part.{spanOf}
 use Rattle.symbols.specs.Symbols.{find}
 use Rattle.names.specs.Names.{namesOf, nameRecord}
-use Rattle.symbols.specs.Texts.{spanAt}
 use Rattle.names.specs.Held.{Held}
-use Rattle.walk.specs.Walk.{Head, Own, noexpr, of, ownKind, Tree, none, part, refer, Node, Status, fresh, finished, State, visit, namesTo, unwalked}
+use Rattle.walk.specs.Walk.{NodeHead, Own, noexpr, of, ownKind, Tree, none, part, refer, Node, Status, fresh, finished, State, visit, namesTo, unwalked}
 use Rattle.walk.specs.Trees.{head, treeOf}
 use Rattle.walk.specs.Nodes.{nodeRecord}
 use Rattle.resolve.specs.Words.{kindIn, statusWord, forRight, forLeft, forName}
@@ -63,7 +62,7 @@ module _ {source exprs : List ℕ} {count : ℕ} (w : Given source exprs count) 
   abbrev pub total : ℕ
   total = length names-of
 
-  unfoldable pub headAt : (e n : ℕ) → Head
+  unfoldable pub headAt : (e n : ℕ) → NodeHead
   headAt e n =
       head (if eqb n 0 then wordAt exprWidth exprs e 1 else nameNo names-of n .start) n
       (if eqb e 0 then spanOf (nameNo names-of n) else spanAt exprWidth exprs e 4)

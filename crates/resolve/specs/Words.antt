@@ -11,11 +11,11 @@ use Rattle.records.specs.NodeKind as node
 use Rattle.records.specs.Records.{nameWords, nodeWords}
 use Rattle.records.specs.declared.Span.{Span}
 use Rattle.records.specs.declared.NodeRecord.{NodeRecord}
-use Rattle.tables.specs.Tables.{tableOf, wordAt, written}
+use Rattle.tables.specs.Tables.{tableOf, wordAt, written, spanAt}
 use Rattle.literals.specs.Literals.{spanText}
 use Rattle.cursor.specs.Cursor.{nextNumber}
 use Rattle.symbols.specs.Symbols.{findFrom}
-use Rattle.symbols.specs.Texts.{spanAt, textsFrom}
+use Rattle.symbols.specs.Texts.{textsFrom}
 use Rattle.walk.specs.Walk.{Node, Status, fresh, begun, finished}
 use Rattle.walk.specs.Nodes.{nodeRecordsFrom, nodeRows}
 use Rattle.resolve.specs.declared.StackItem.{StackItem}

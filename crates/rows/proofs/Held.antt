@@ -10,24 +10,22 @@ use lib.ListN.{length, getD, length-append, length-replicate, length-map}
 use borrow.Author.Tests.{le-leb}
 use Rattle.records.specs.Base.{if_then_else_, within}
 use Rattle.records.specs.Limits.{recordLimit, nameWidth, nodeWidth, errorWidth}
-use Rattle.records.specs.Records.{nameWords, nodeWords, errorWords}
+use Rattle.records.specs.Records.{noSpan, nameWords, nodeWords, errorWords}
 use Rattle.records.specs.declared.NameRecord.{NameRecord}
 use Rattle.records.specs.declared.NodeRecord.{NodeRecord}
 use Rattle.records.specs.declared.ErrorRecord.{ErrorRecord}
 use Rattle.records.proofs.Choices.{within-low, within-high}
 use Rattle.records.proofs.Widths.{name-width, node-width, error-width}
-use Rattle.tables.specs.Tables.{tableOf, wordAt}
+use Rattle.tables.specs.Tables.{tableOf, wordAt, spanAt}
 use Rattle.tables.proofs.Laws.{Wide, wide-map, room}
 use Rattle.tables.proofs.Reading.{table-reads}
 use Rattle.literals.specs.Literals.{spanText}
-use Rattle.grammar.specs.Part.{noSpan}
-use Rattle.symbols.specs.Texts.{spanAt}
 use Rattle.walk.specs.Trees.{recordNo}
 use Rattle.walk.proofs.Numbered.{not-there, record-bounds, record-at}
 use Rattle.resolve.specs.Words.{nodeAt}
 use Rattle.access.specs.Access.{nameSpan, nameTextOf, inTable, isRootAt}
 use Rattle.access.specs.Roots.{noParent, isRoot, roots}
-use Rattle.print.specs.Text.{row}
+use Rattle.print.specs.Text.{printedRow}
 use Rattle.rows.specs.Rows.{headRow, nameWord, nodeRow, nodeRows, rootRow, rootRows, errorRow, errorRows, spanTextIf, nameIn, listed}
 use Rattle.rows.specs.Words.{_then_, rowsFrom, countFrom, errorAt, nodeRowAt, nodesAt, rootRowAt, rootsAt, errorRowAt, errorsAt, listedAt}
 
@@ -230,7 +228,7 @@ module _ (source names nodes errors : List ℕ) (ns : List NameRecord) (xs : Lis
   root-row : (i : ℕ) (n : NameRecord) → recordNo ns i ≡ some n → rootRowNo i ≡ (if isRoot xs n then rootRow source n else [])
   unfolding rootRowAt rootRow nameIn
   root-row i n e =
-      ap₂ (λ (b : Bool) (t : List ℕ). if b then row (t ∷ []) else []) (root-held i n e) (name-text-held i ∙ ap (spanTextIf source) e)
+      ap₂ (λ (b : Bool) (t : List ℕ). if b then printedRow (t ∷ []) else []) (root-held i n e) (name-text-held i ∙ ap (spanTextIf source) e)
 
   root-rows : rowsFrom rootRowNo (length ns) 1 ≡ rootRows source (roots ns xs)
   unfolding rootRows roots

@@ -16,14 +16,14 @@ use Rattle.records.specs.declared.NameRecord.{NameRecord}
 use Rattle.records.specs.declared.NodeRecord.{NodeRecord}
 use Rattle.records.specs.declared.ErrorRecord.{ErrorRecord}
 use Rattle.text.specs.declared.Position.{Position}
-use Rattle.text.specs.Place.{beginsChar, pass, placeOf}
+use Rattle.text.specs.Place.{beginsChar, pass, positionOf}
 use Rattle.literals.specs.Literals.{spanText}
 use Rattle.grammar.specs.Places.{Each}
 use Rattle.walk.specs.Trees.{recordNo}
 use Rattle.walk.specs.Stands.{sum}
 use Rattle.walk.proofs.Count.{sum-one}
 use Rattle.access.specs.Roots.{isRoot, roots}
-use Rattle.print.specs.Text.{digits, decimal, row, placeWord, listingLimit}
+use Rattle.print.specs.Text.{digits, decimal, printedRow, placeWord, listingLimit}
 use Rattle.rows.specs.Rows.{wordIf, nodeWord, errorWord, headRow, nameWord, unlessZero, nodeRow, nodeRows, rootRow, rootRows, errorRow, errorRows, refusedPlace, refusedRow, nameIn, listed}
 
 -- ---- digits
@@ -90,8 +90,8 @@ passes-upto m p [] h = omega (arith, h)
 passes-upto m p (b ∷ bs) h = let later = passes-upto (suc m) (pass p b) bs (pass-upto m p b h) in omega (arith, later)
 
 -- line and column are at most one more than the source is long
-pub place-upto : (source : List ℕ) (offset : ℕ) → Upto (length source + 1) (placeOf source offset)
-unfolding placeOf
+pub place-upto : (source : List ℕ) (offset : ℕ) → Upto (length source + 1) (positionOf source offset)
+unfolding positionOf
 place-upto source offset =
     let h = passes-upto 1 (record { line = 1; column = 1 }) (take offset source) (omega arith) in
     omega (arith, h, length-take offset source)
@@ -102,9 +102,9 @@ unfolding placeWord
 place-length p = omega (arith, length-append (decimal (p .line) ++ bytes ":") (decimal (p .column)), length-append (decimal (p .line)) (bytes ":"))
 
 -- a place in a source that is not over the limit
-pub place-few : (source : List ℕ) (offset : ℕ) → length source ≤ sourceLimit → length (placeWord (placeOf source offset)) ≤ 11
+pub place-few : (source : List ℕ) (offset : ℕ) → length source ≤ sourceLimit → length (placeWord (positionOf source offset)) ≤ 11
 place-few source offset h =
-    let p : Position = placeOf source offset in
+    let p : Position = positionOf source offset in
     let u = place-upto source offset in
     omega (arith, place-length p, decimal-few 4 (p .line) (omega (arith, h, u)), decimal-few 4 (p .column) (omega (arith, h, u)))
 
@@ -135,10 +135,10 @@ error-word-few k = word-few 10 _ k (omega arith)
 -- ---- rows
 
 -- behind each word stands a space or LF
-row-length : (w : List ℕ) (ws : List (List ℕ)) → length (row (w ∷ ws)) ≡ sum (map (λ (v : List ℕ). length v + 1) (w ∷ ws))
-unfolding row sum
+row-length : (w : List ℕ) (ws : List (List ℕ)) → length (printedRow (w ∷ ws)) ≡ sum (map (λ (v : List ℕ). length v + 1) (w ∷ ws))
+unfolding printedRow sum
 row-length w [] = omega (arith, length-append w (bytes "\n"))
-row-length w (v ∷ ws) = omega (arith, length-append (w ++ bytes " ") (row (v ∷ ws)), length-append w (bytes " "), row-length v ws)
+row-length w (v ∷ ws) = omega (arith, length-append (w ++ bytes " ") (printedRow (v ∷ ws)), length-append w (bytes " "), row-length v ws)
 
 -- a word of at most 6 bytes and a count of records
 head-few : (w : String) (n : ℕ) → length (bytes w) ≤ 6 → n ≤ recordLimit → length (headRow w n) ≤ 12
@@ -152,9 +152,9 @@ refused-place : (source : List ℕ) (r : Refusal) → length (refusedPlace sourc
 unfolding refusedPlace
 refused-place source r = go (leb 6 (r .no) && eqb (r .place) (length source))
   where
-    go : (b : Bool) → length (if b then bytes "0:0" else placeWord (placeOf source (r .place))) ≤ 41
+    go : (b : Bool) → length (if b then bytes "0:0" else placeWord (positionOf source (r .place))) ≤ 41
     go true = omega arith
-    go false = place-fits (placeOf source (r .place))
+    go false = place-fits (positionOf source (r .place))
 
 -- the number behind it, if there is one
 unless-zero : (v : ℕ) → sum (map (λ (w : List ℕ). length w + 1) (unlessZero v)) ≤ 21
@@ -221,7 +221,7 @@ module _ (source : List ℕ) (short : length source ≤ sourceLimit) where
   unfolding nodeRows nodeRow sum
   node-rows-few ns i [] few c = omega arith
   node-rows-few ns i (x ∷ xs) few c =
-      let place : List ℕ = placeWord (placeOf source (x .start .0)) in
+      let place : List ℕ = placeWord (positionOf source (x .start .0)) in
       omega (
         arith,
         length-append (nodeRow source (nameIn source ns) i x) (nodeRows source (nameIn source ns) (suc i) xs),
@@ -240,7 +240,7 @@ module _ (source : List ℕ) (short : length source ≤ sourceLimit) where
   unfolding errorRows errorRow sum
   error-rows-few [] = omega arith
   error-rows-few (e ∷ es) =
-      let place : List ℕ = placeWord (placeOf source (e .start .0)) in
+      let place : List ℕ = placeWord (positionOf source (e .start .0)) in
       omega (
         arith,
         length-append (errorRow source e) (errorRows source es),

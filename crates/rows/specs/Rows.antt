@@ -11,11 +11,11 @@ use Rattle.records.specs.declared.refusals.Refusal.{Refusal}
 use Rattle.records.specs.declared.NameRecord.{NameRecord}
 use Rattle.records.specs.declared.NodeRecord.{NodeRecord}
 use Rattle.records.specs.declared.ErrorRecord.{ErrorRecord}
-use Rattle.text.specs.Place.{placeOf}
+use Rattle.text.specs.Place.{positionOf}
 use Rattle.literals.specs.Literals.{spanText}
 use Rattle.walk.specs.Trees.{recordNo}
 use Rattle.access.specs.Roots.{roots}
-use Rattle.print.specs.Text.{decimal, row, placeWord}
+use Rattle.print.specs.Text.{decimal, printedRow, placeWord}
 
 -- ---- kinds by their words
 
@@ -40,7 +40,7 @@ errorWord k = wordIf (recordNo ("illegal" ∷ "repeated" ∷ "missing" ∷ "inco
 
 -- a word and a count
 unfoldable pub headRow : String → ℕ → List ℕ
-headRow w n = row (bytes w ∷ decimal n ∷ [])
+headRow w n = printedRow (bytes w ∷ decimal n ∷ [])
 
 -- name or `-`; `nameOf` is the text of a name by its number
 unfoldable pub nameWord : (nameOf : ℕ → List ℕ) → (name : ℕ) → List ℕ
@@ -56,11 +56,11 @@ module _ (source : List ℕ) where
   -- number, kind, name or `-`, place, left, right
   unfoldable pub nodeRow : (nameOf : ℕ → List ℕ) → (number : ℕ) → NodeRecord → List ℕ
   nodeRow nameOf i x =
-      row
+      printedRow
       (decimal i
       ∷ nodeWord (x .kind .0)
       ∷ nameWord nameOf (x .name .0)
-      ∷ placeWord (placeOf source (x .start .0))
+      ∷ placeWord (positionOf source (x .start .0))
       ∷ decimal (x .left .0)
       ∷ decimal (x .right .0)
       ∷ [])
@@ -72,7 +72,7 @@ module _ (source : List ℕ) where
 
   -- a root's name
   unfoldable pub rootRow : NameRecord → List ℕ
-  rootRow n = row (spanText source (n .span) ∷ [])
+  rootRow n = printedRow (spanText source (n .span) ∷ [])
 
   unfoldable pub rootRows : List NameRecord → List ℕ
   rootRows [] = []
@@ -80,7 +80,7 @@ module _ (source : List ℕ) where
 
   -- kind, place, name
   unfoldable pub errorRow : ErrorRecord → List ℕ
-  errorRow e = row (errorWord (e .kind .0) ∷ placeWord (placeOf source (e .start .0)) ∷ spanText source (e .name) ∷ [])
+  errorRow e = printedRow (errorWord (e .kind .0) ∷ placeWord (positionOf source (e .start .0)) ∷ spanText source (e .name) ∷ [])
 
   unfoldable pub errorRows : List ErrorRecord → List ℕ
   errorRows [] = []
@@ -90,11 +90,11 @@ module _ (source : List ℕ) where
 
   -- end of source as a place, which only refusals 6 to 13 have, prints as 0:0
   unfoldable pub refusedPlace : Refusal → List ℕ
-  refusedPlace r = if leb 6 (r .no) && eqb (r .place) (length source) then bytes "0:0" else placeWord (placeOf source (r .place))
+  refusedPlace r = if leb 6 (r .no) && eqb (r .place) (length source) then bytes "0:0" else placeWord (positionOf source (r .place))
 
   -- one row, and its number after that if not 0
   unfoldable pub refusedRow : Refusal → List ℕ
-  refusedRow r = row (bytes "refused" ∷ decimal (r .no) ∷ refusedPlace r ∷ unlessZero (r .value))
+  refusedRow r = printedRow (bytes "refused" ∷ decimal (r .no) ∷ refusedPlace r ∷ unlessZero (r .value))
 
   -- ---- the whole
 

@@ -6,12 +6,11 @@ use lib.ListN.{length}
 use Rattle.records.specs.Base.{if_then_else_, bytes}
 use Rattle.records.specs.Limits.{errorWidth}
 use Rattle.records.specs.declared.ErrorRecord.{ErrorRecord}
-use Rattle.tables.specs.Tables.{wordAt}
+use Rattle.tables.specs.Tables.{wordAt, spanAt}
 use Rattle.literals.specs.Literals.{spanText}
-use Rattle.symbols.specs.Texts.{spanAt}
 use Rattle.resolve.specs.Words.{nodeAt}
 use Rattle.access.specs.Access.{nameTextOf, isRootAt}
-use Rattle.print.specs.Text.{decimal, row, listingLimit}
+use Rattle.print.specs.Text.{decimal, printedRow, listingLimit}
 use Rattle.rows.specs.Rows.{headRow, nodeRow, errorRow}
 
 -- ---- pieces of text
@@ -69,7 +68,7 @@ module _ (source : List ℕ) where
     -- roots: how many, and a row for each name that is one
     module _ (made : ℕ) where
       unfoldable pub rootRowAt : (number : ℕ) → List ℕ
-      rootRowAt i = if isRootAt names named nodes made i then row (nameTextOf source names named i ∷ []) else []
+      rootRowAt i = if isRootAt names named nodes made i then printedRow (nameTextOf source names named i ∷ []) else []
 
       unfoldable pub rootsAt : List ℕ
       rootsAt = headRow "roots" (countFrom (isRootAt names named nodes made) named 1) then rowsFrom rootRowAt named 1

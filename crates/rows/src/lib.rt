@@ -3,7 +3,7 @@ ghost use mathlib.Core.Path.{_≡_};
 ghost use Prim.Native.Nat.{_≤_};
 ghost use lib.ListN.{length};
 ghost use Rattle.records.specs.Base.{if_then_else_};
-ghost use Rattle.text.specs.Place.{placeOf};
+ghost use Rattle.text.specs.Place.{positionOf};
 ghost use Rattle.print.specs.Text.{decimal, placeWord, listingLimit, Puts};
 ghost use Rattle.access.specs.Access.{nameTextOf, isRootAt};
 ghost use Rattle.rows.specs.Rows.{nodeWord, errorWord, nameWord, refusedPlace, refusedRow};
@@ -35,8 +35,8 @@ fn put_number(out: &mut [u8], at: usize, number: u32, end: u8) -> usize
 
 // Writes the place of an offset, and a space.
 fn put_offset(out: &mut [u8], at: usize, source: &[u8], offset: u32) -> usize
-    requires { ⌜ Room at (ended (placeWord (placeOf (now source) offset)) 32) ⌝ }
-    ensures { λ r. ⌜ Puts (ended (placeWord (placeOf (now (source .entry)) offset)) 32) (now (out .entry)) at (now (out .exit)) r ⌝ }
+    requires { ⌜ Room at (ended (placeWord (positionOf (now source) offset)) 32) ⌝ }
+    ensures { λ r. ⌜ Puts (ended (placeWord (positionOf (now (source .entry)) offset)) 32) (now (out .entry)) at (now (out .exit)) r ⌝ }
 {
     let at = print::put_place(out, at, source, offset as usize);
     print::put_byte(out, at, b' ')
@@ -182,8 +182,8 @@ fn put_node_back(
     left: u32,
     right: u32,
 ) -> usize
-    requires { ⌜ Room at (ended (placeWord (placeOf (now source) start)) 32 then ended (decimal left) 32 then ended (decimal right) 10) ⌝ }
-    ensures { λ r. ⌜ Puts (ended (placeWord (placeOf (now (source .entry)) start)) 32 then ended (decimal left) 32 then ended (decimal right) 10) (now (out .entry)) at (now (out .exit)) r ⌝ }
+    requires { ⌜ Room at (ended (placeWord (positionOf (now source) start)) 32 then ended (decimal left) 32 then ended (decimal right) 10) ⌝ }
+    ensures { λ r. ⌜ Puts (ended (placeWord (positionOf (now (source .entry)) start)) 32 then ended (decimal left) 32 then ended (decimal right) 10) (now (out .entry)) at (now (out .exit)) r ⌝ }
 {
     let at = put_offset(out, at, source, start);
     let at = put_number(out, at, left, b' ');

@@ -12,16 +12,16 @@ use borrow.Author.Tests.{le-leb, lt-leb, lt-ltb, le-ltb}
 use Rattle.records.specs.Limits.{recordLimit, tokenWidth, lineWidth, exprWidth, typeWidth, nameWidth, nodeWidth, errorWidth, workWidth}
 use Rattle.ast.specs.Parsing as ast
 use Rattle.print.specs.Text.{Puts}
-use Rattle.reader.specs.Reading.{Reading, reading, eight, shortBy, readInto}
+use Rattle.reader.specs.Reading.{Reading, reading, eight, shortToReadBy, readInto}
 use Rattle.listing.specs.Listing.{listing, listAnswer, listedIn}
-use Rattle.listing.specs.declared.ListAnswer.{ListAnswer}
-use Rattle.listing.specs.declared.ListAnswer.the-variants.{Listed, NoRoom}
+use Rattle.ends.specs.declared.ListAnswer.{ListAnswer}
+use Rattle.ends.specs.declared.ListAnswer.the-variants.{Listed, NoRoom}
 use Rattle.listing.proofs.Texts.{listed-all, listed-none}
 use Rattle.sheets.specs.Sheet.{jetsLimit, refusedJets, sheet, bytesOf}
 
 -- tables of just so many words are not short
 pub own-tables : (source jets ts ls es ty ns xs rs ws : List ℕ) → length ts ≡ recordLimit * tokenWidth → length ls ≡ recordLimit * lineWidth → length es ≡ recordLimit * exprWidth → length ty ≡ recordLimit * typeWidth → length ns ≡ recordLimit * nameWidth → length xs ≡ recordLimit * nodeWidth → length rs ≡ recordLimit * errorWidth → length ws ≡ recordLimit * workWidth → readInto source jets (eight ts ls es ty ns xs rs ws) ≡ reading source jets
-unfolding readInto shortBy ast.shortBy
+unfolding readInto shortToReadBy ast.shortToParseBy
 own-tables source jets ts ls es ty ns xs rs ws a b c d e f g h = rw (a, b, c, d, e, f, g, h)
 
 -- the listing of one reading is that of the other

@@ -6,8 +6,8 @@ use lib.ListN.{length}
 use Rattle.records.specs.Base.{if_then_else_, bytes}
 use Rattle.reader.specs.Reading.{reading}
 use Rattle.listing.specs.Listing.{listing}
-use Rattle.listing.specs.declared.ListAnswer.{ListAnswer}
-use Rattle.listing.specs.declared.ListAnswer.the-variants.{Listed, NoRoom}
+use Rattle.ends.specs.declared.ListAnswer.{ListAnswer}
+use Rattle.ends.specs.declared.ListAnswer.the-variants.{Listed, NoRoom}
 
 -- bytes of a jet list; only the program has this limit
 abbrev pub jetsLimit : ℕ

@@ -6,7 +6,7 @@ ghost use lib.ListN.{length, take};
 ghost use Rattle.reader.specs.Reading.{reading};
 ghost use Rattle.listing.specs.Listing.{listing, listAnswer, listedIn};
 ghost use Rattle.sheets.specs.Sheet.{refusedJets, sheet, bytesOf};
-use listing::ListAnswer;
+use ends::ListAnswer;
 use records::ErrorRecord;
 use records::ExprRecord;
 use records::LineRecord;

@@ -9,11 +9,12 @@ use lib.Dec.{eqb}
 use Rattle.records.specs.Base.{if_then_else_, bytes}
 use Rattle.records.specs.Limits.{nameWidth}
 use Rattle.records.specs.declared.Span.{Span}
+use Rattle.tables.specs.Tables.{spanAt}
 use Rattle.literals.specs.Literals.{spanText}
 use Rattle.classes.specs.Classes.{word, starts}
 use Rattle.checks.specs.Jets.{same}
 use Rattle.symbols.specs.Symbols.{Text, illegal, findFrom}
-use Rattle.symbols.specs.Texts.{spanAt, nameText, textsFrom}
+use Rattle.symbols.specs.Texts.{nameText, textsFrom}
 
 -- ---- the same text
 

@@ -1,15 +1,10 @@
--- A table of names by its words: the span of a record, the text of a name, the texts of names one behind the other.
+-- A table of names by its words: the text of a name, the texts of names one behind the other.
 use Prim.Native.Nat.{ℕ, zero, suc}
 use mathlib.Core.List.{List, [], _∷_}
 use Rattle.records.specs.Limits.{nameWidth}
-use Rattle.records.specs.declared.Span.{Span}
-use Rattle.tables.specs.Tables.{wordAt}
+use Rattle.tables.specs.Tables.{spanAt}
 use Rattle.literals.specs.Literals.{spanText}
 use Rattle.symbols.specs.Symbols.{Text}
-
--- the span that the words `place` and the next of a record say
-abbrev pub spanAt : (width : ℕ) → (table : List ℕ) → (number place : ℕ) → Span
-spanAt w t n j = record { start = record { 0 = wordAt w t n j }; len = wordAt w t n (suc j) }
 
 -- the text of the name number n
 unfoldable pub nameText : (source names : List ℕ) → (n : ℕ) → Text

@@ -1,9 +1,10 @@
 // What a name's text is, and which name has it, over a lent table of names. Each function takes any words.
 ghost use mathlib.Core.Path.{_≡_};
 ghost use Rattle.records.specs.Limits.{nameWidth};
+ghost use Rattle.tables.specs.Tables.{spanAt};
 ghost use Rattle.checks.specs.Jets.{same};
 ghost use Rattle.symbols.specs.Symbols.{illegal, findFrom};
-ghost use Rattle.symbols.specs.Texts.{spanAt, nameText, textsFrom};
+ghost use Rattle.symbols.specs.Texts.{nameText, textsFrom};
 use records::NameRecord;
 use records::Span;
 use records::numbers::ByteOffset;

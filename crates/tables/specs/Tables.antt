@@ -1,10 +1,11 @@
 -- Document 01, Sizes and Refusals: the words of a lent table. `width` is the words of a record.
-use Prim.Native.Nat.{ℕ, _+_, _*_, _-_}
+use Prim.Native.Nat.{ℕ, suc, _+_, _*_, _-_}
 use mathlib.Core.List.{List, [], _∷_, _++_}
 use lib.ListN.{length, getD, take, drop, replicate}
 use lib.Seq.{sets}
 use Rattle.records.specs.Base.{if_then_else_, within}
 use Rattle.records.specs.Limits.{recordLimit}
+use Rattle.records.specs.declared.Span.{Span}
 
 -- the words of records, one record behind the other
 unfoldable pub joined : List (List ℕ) → List ℕ
@@ -23,6 +24,10 @@ recordAt width table n = if within 1 recordLimit n then take width (drop ((n - 1
 -- a word of a record, counted from 0; what is not there reads as 0
 abbrev pub wordAt : (width : ℕ) → (table : List ℕ) → (number place : ℕ) → ℕ
 wordAt width table n j = getD (recordAt width table n) j 0
+
+-- the span that a word of a record and the next one say
+abbrev pub spanAt : (width : ℕ) → (table : List ℕ) → (number place : ℕ) → Span
+spanAt width table n j = record { start = record { 0 = wordAt width table n j }; len = wordAt width table n (suc j) }
 
 -- A table in which these words were written as the record n. More words than the record has are left out, and so is what
 -- would stand past the table's end.

@@ -16,7 +16,8 @@ fn wide(x: u32) -> usize
     x as usize
 }
 
-fn lesser(a: usize, b: usize) -> usize
+// The lesser of two lengths.
+pub fn lesser(a: usize, b: usize) -> usize
     ensures { λ r. ⌜ r ≡ min a b ⌝ }
 {
     if a <= b { a } else { b }

@@ -18,7 +18,7 @@ use Rattle.text.specs.declared.TextAnswer.the-variants.{Valid, BadAt}
 use Rattle.text.specs.Utf8.{utf8-1, utf8-2, utf8-3, utf8-4}
 use Rattle.text.specs.Check.{beginsBy, charLen, checkFrom}
 use Rattle.text.proofs.Chars.{char-inside}
-use Rattle.text.specs.Place.{beginsChar, pass, placeOf}
+use Rattle.text.specs.Place.{beginsChar, pass, positionOf}
 
 -- ---- a character's length, by four tests, past the end of the text a 0 serving as well
 
@@ -103,8 +103,8 @@ pass-near p q b i e (l, k) = rw e (go (eqb b 10) (beginsChar b))
     go false true = (omega arith, omega arith)
     go false false = (omega arith, omega arith)
 
-pub place-start : (s : List ℕ) (offset : ℕ) → placeOf s offset ≡ foldl pass (record { line = 1; column = 1 }) (drop 0 (take offset s))
-unfolding placeOf
+pub place-start : (s : List ℕ) (offset : ℕ) → positionOf s offset ≡ foldl pass (record { line = 1; column = 1 }) (drop 0 (take offset s))
+unfolding positionOf
 place-start s offset = refl
 
 module _ (s : List ℕ) (offset i : ℕ) (p : Position) where

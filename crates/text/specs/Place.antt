@@ -20,5 +20,5 @@ pass p b =
     else p
 
 -- an offset past the end counts as the end, since `take` stops there
-unfoldable pub placeOf : (source : List ℕ) → (offset : ℕ) → Position
-placeOf source offset = foldl pass (record { line = 1; column = 1 }) (take offset source)
+unfoldable pub positionOf : (source : List ℕ) → (offset : ℕ) → Position
+positionOf source offset = foldl pass (record { line = 1; column = 1 }) (take offset source)

@@ -6,7 +6,7 @@ ghost use Prim.Native.Nat.{_+_, _≤_, _<_, _^_};
 ghost use lib.ListN.{length, getD};
 ghost use Rattle.text.specs.Check.{beginsBy, charLen, checkText, rowOfText};
 ghost use Rattle.text.specs.Utf8.{utf8-1, utf8-2, utf8-3, utf8-4};
-ghost use Rattle.text.specs.Place.{beginsChar, pass, placeOf};
+ghost use Rattle.text.specs.Place.{beginsChar, pass, positionOf};
 use records::refusals::Refusal;
 
 // What is found of the bytes of a source.
@@ -158,7 +158,7 @@ fn pass_byte(p: Position, b: u8) -> Position
 
 // The line and column of an offset. An offset past the end counts as the end.
 pub fn offset_to_position(source: &[u8], offset: usize) -> Position
-    ensures { λ r. ⌜ r ≡ placeOf (now (source .entry)) offset ⌝ }
+    ensures { λ r. ⌜ r ≡ positionOf (now (source .entry)) offset ⌝ }
 {
     let mut p = Position { line: 1, column: 1 };
     let mut i: usize = 0;

@@ -41,7 +41,7 @@ use Rattle.types.specs.declared.AtomHead.{AtomHead}
 use Rattle.types.specs.declared.AtomHead.the-variants.{Whole, Absent, Group, Refused as NoAtom}
 use Rattle.types.specs.declared.Op.{Op as CodeOp}
 use Rattle.types.specs.declared.Op.the-variants.{Sum as Plus, Product as Star}
-use Rattle.types.specs.Answers.{typeRows, TypeReads, recordBy, finished, Leaf, HeadAt, HeadReads, closed, joined, joinedTable, opInner}
+use Rattle.types.specs.Answers.{typeRows, TypeReads, typeRecordBy, finished, LeafType, HeadAt, AtomHeadReads, closedType, operatorRead, joinedTable, opInner}
 
 -- ---- sizes
 
@@ -76,7 +76,7 @@ module _ (s t : List ℕ) (n : ℕ) where
 
   module _ (c : Cursor) (ready : Ready n c) where
     -- a type of one record
-    leaf-reads : (x : Ty) (i : TypeInner) (u : Token) (rest : List Token) (r : TypeAnswer) (old new : List ℕ) → Leaf x i → tokensLeft s t n (c .token .0) ≡ u ∷ rest → r ≡ finished (stepped c) → new ≡ written typeWidth old (nextNumber (c .ty .0)) (typeWords (recordBy i)) → TypeReads s t n c (got x rest) r old new
+    leaf-reads : (x : Ty) (i : TypeInner) (u : Token) (rest : List Token) (r : TypeAnswer) (old new : List ℕ) → LeafType x i → tokensLeft s t n (c .token .0) ≡ u ∷ rest → r ≡ finished (stepped c) → new ≡ written typeWidth old (nextNumber (c .ty .0)) (typeWords (typeRecordBy i)) → TypeReads s t n c (got x rest) r old new
     leaf-reads x i u rest r old new leaf e f g =
         let below : c .token .0 < n = some-left s t n (c .token .0) u rest e in
         let next : nextNumber (c .ty .0) ≡ c .ty .0 + 1 = sym (next-below (omega (arith, ready .types, ready .few))) in
@@ -86,7 +86,7 @@ module _ (s t : List ℕ) (n : ℕ) where
           d,
           f ∙ rw (next, no),
           rw (leaf .one) (record { inside = at .inside; left = at .left; exprs = at .exprs; types = refl; room = (at .room .0, omega arith) }),
-          g ∙ rw next (sym (filled-one typeWidth old (c .ty .0) (typeWords (recordBy i))) ∙ ap (λ (q : List TypeRecord). filled typeWidth old (c .ty .0) (map typeWords q)) (sym (leaf .row (c .ty .0)))),
+          g ∙ rw next (sym (filled-one typeWidth old (c .ty .0) (typeWords (typeRecordBy i))) ∙ ap (λ (q : List TypeRecord). filled typeWidth old (c .ty .0) (map typeWords q)) (sym (leaf .row (c .ty .0)))),
         )
 
     absent-reads : (u : Token) (rest : List Token) (old : List ℕ) → tokensLeft s t n (c .token .0) ≡ u ∷ rest → TypeReads s t n c (got tree.absent rest) (Read (record { 0 = 0 }) (stepped c)) old old
@@ -95,17 +95,17 @@ module _ (s t : List ℕ) (n : ℕ) where
         (stepped c, refl, reached-first s t n u ready e, refl)
 
     -- what stands in parentheses, and its closing one
-    group-reads : (P : Parsed Ty) (u : Token) (rest : List Token) (p r : TypeAnswer) (old new : List ℕ) → tokensLeft s t n (c .token .0) ≡ u ∷ rest → TypeReads s t n (stepped c) P p old new → r ≡ closed s t n p
+    group-reads : (P : Parsed Ty) (u : Token) (rest : List Token) (p r : TypeAnswer) (old new : List ℕ) → tokensLeft s t n (c .token .0) ≡ u ∷ rest → TypeReads s t n (stepped c) P p old new → r ≡ closedType s t n p
         → TypeReads s t n c (goOn P (λ x ts. goOn (expect token.rparen ts) (λ _. got x))) r old new
-    unfolding closed goOn
+    unfolding closedType goOn
     group-reads (stop x q) u rest p r old new e h f = (f ∙ rw (h .0), h .1)
     group-reads (got x q) u rest p r old new e h f = go (meets (length s) token.rparen (h .0) q)
       where
         at : Reached s t n c (h .0) q 0 (typeWeight x)
         at = reached-after s t n (reached-first s t n u ready e) (h .2)
 
-        is : r ≡ closed s t n (Read (record { 0 = typeNo x (c .ty .0) }) (h .0))
-        is = f ∙ ap (closed s t n) (h .1)
+        is : r ≡ closedType s t n (Read (record { 0 = typeNo x (c .ty .0) }) (h .0))
+        is = f ∙ ap (closedType s t n) (h .1)
 
         go : Meets (length s) token.rparen (h .0) q → TypeReads s t n c (goOn (expect token.rparen q) (λ _. got x)) r old new
         go (passes v later eq ep ec) =
@@ -131,16 +131,16 @@ module _ (s t : List ℕ) (n : ℕ) where
       unfolding atom goOn
       unheaded ts x e = rw e
 
-      pub atom-whole : (ts : List Token) (h : AtomHead) (i : TypeInner) (d : Cursor) (r : TypeAnswer) (old new : List ℕ) → tokensLeft s t n (c .token .0) ≡ ts → HeadReads jets (length s) c ts h → h ≡ Whole i d → r ≡ finished d
-          → new ≡ written typeWidth old (nextNumber (d .ty .0)) (typeWords (recordBy i)) → TypeReads s t n c (An ts) r old new
+      pub atom-whole : (ts : List Token) (h : AtomHead) (i : TypeInner) (d : Cursor) (r : TypeAnswer) (old new : List ℕ) → tokensLeft s t n (c .token .0) ≡ ts → AtomHeadReads jets (length s) c ts h → h ≡ Whole i d → r ≡ finished d
+          → new ≡ written typeWidth old (nextNumber (d .ty .0)) (typeWords (typeRecordBy i)) → TypeReads s t n c (An ts) r old new
       unfolding atomBy
       atom-whole [] h i d r old new e w f er en = let z : _≡_ {A = ℕ} 0 1 = cc in absurd (omega arith)
       atom-whole (u ∷ rest) h i d r old new e w f er en =
           let k : HeadAt jets u rest (stepped c) (Whole i d) = subst (HeadAt jets u rest (stepped c)) f w in
           subst (λ (P : Parsed Ty). TypeReads s t n c P r old new) (sym (headed u rest (whole (k .0)) (k .1)))
-          (leaf-reads (k .0) i u rest r old new (k .2) e (er ∙ ap finished (k .3)) (en ∙ ap (λ (q : Cursor). written typeWidth old (nextNumber (q .ty .0)) (typeWords (recordBy i))) (k .3)))
+          (leaf-reads (k .0) i u rest r old new (k .2) e (er ∙ ap finished (k .3)) (en ∙ ap (λ (q : Cursor). written typeWidth old (nextNumber (q .ty .0)) (typeWords (typeRecordBy i))) (k .3)))
 
-      pub atom-absent : (ts : List Token) (h : AtomHead) (d : Cursor) (old : List ℕ) → tokensLeft s t n (c .token .0) ≡ ts → HeadReads jets (length s) c ts h → h ≡ Absent d → TypeReads s t n c (An ts) (Read (record { 0 = 0 }) d) old old
+      pub atom-absent : (ts : List Token) (h : AtomHead) (d : Cursor) (old : List ℕ) → tokensLeft s t n (c .token .0) ≡ ts → AtomHeadReads jets (length s) c ts h → h ≡ Absent d → TypeReads s t n c (An ts) (Read (record { 0 = 0 }) d) old old
       unfolding atomBy
       atom-absent [] h d old e w f = let z : _≡_ {A = ℕ} 0 1 = cc in absurd (omega arith)
       atom-absent (u ∷ rest) h d old e w f =
@@ -148,8 +148,8 @@ module _ (s t : List ℕ) (n : ℕ) where
           subst (λ (P : Parsed Ty). TypeReads s t n c P (Read (record { 0 = 0 }) d) old old) (sym (headed u rest (whole tree.absent) (k .0)))
           (subst (λ (q : Cursor). TypeReads s t n c (got tree.absent rest) (Read (record { 0 = 0 }) q) old old) (sym (k .1)) (absent-reads u rest old e))
 
-      pub atom-group : (ts : List Token) (h : AtomHead) (d : Cursor) (p r : TypeAnswer) (old new : List ℕ) → tokensLeft s t n (c .token .0) ≡ ts → HeadReads jets (length s) c ts h → h ≡ Group d
-          → (Ready n d → TypeReads s t n d (T (tokensLeft s t n (d .token .0))) p old new) → r ≡ closed s t n p → TypeReads s t n c (An ts) r old new
+      pub atom-group : (ts : List Token) (h : AtomHead) (d : Cursor) (p r : TypeAnswer) (old new : List ℕ) → tokensLeft s t n (c .token .0) ≡ ts → AtomHeadReads jets (length s) c ts h → h ≡ Group d
+          → (Ready n d → TypeReads s t n d (T (tokensLeft s t n (d .token .0))) p old new) → r ≡ closedType s t n p → TypeReads s t n c (An ts) r old new
       unfolding atomBy
       atom-group [] h d p r old new e w f i er = let z : _≡_ {A = ℕ} 0 1 = cc in absurd (omega arith)
       atom-group (u ∷ rest) h d p r old new e w f i er =
@@ -159,7 +159,7 @@ module _ (s t : List ℕ) (n : ℕ) where
           let reads : TypeReads s t n (stepped c) (T rest) p old new = subst (λ (v : List Token). TypeReads s t n (stepped c) (T v) p old new) (at .left) (inner (reached-ready s t n ready at)) in
           subst (λ (P : Parsed Ty). TypeReads s t n c P r old new) (sym (headed u rest group (k .0))) (group-reads (T rest) u rest p r old new e reads er)
 
-      pub atom-refused : (ts : List Token) (h : AtomHead) (x : ParseRefusal) (old : List ℕ) → tokensLeft s t n (c .token .0) ≡ ts → HeadReads jets (length s) c ts h → h ≡ NoAtom x → TypeReads s t n c (An ts) (Refused x) old old
+      pub atom-refused : (ts : List Token) (h : AtomHead) (x : ParseRefusal) (old : List ℕ) → tokensLeft s t n (c .token .0) ≡ ts → AtomHeadReads jets (length s) c ts h → h ≡ NoAtom x → TypeReads s t n c (An ts) (Refused x) old old
       unfolding atom goOn typeHead choice
       atom-refused [] h x old e w f = (let z : NoAtom x ≡ NoAtom (refusalAt (length s) ParseFailed []) = sym f ∙ w in cc, refl)
       atom-refused (u ∷ rest) h x old e w f =

@@ -43,7 +43,7 @@ use Rattle.types.specs.declared.Op.{Op as CodeOp}
 use Rattle.types.specs.declared.Op.the-variants.{Sum as Plus, Product as Star}
 use Rattle.types.specs.declared.Operator.{Operator}
 use Rattle.types.specs.declared.Operator.the-variants.{Is, Over}
-use Rattle.types.specs.Answers.{typeRows, TypeReads, recordBy, finished, operatorBy, operatorAt, joined, joinedTable, opInner}
+use Rattle.types.specs.Answers.{typeRows, TypeReads, typeRecordBy, finished, operatorBy, operatorAt, operatorRead, joinedTable, opInner}
 use Rattle.types.proofs.Atoms.{present-weighs, rows-weigh, rows-append, filled-stays}
 
 -- the operator of the trees
@@ -94,7 +94,7 @@ module _ (o : CodeOp) (x y : Ty) (m : ℕ) where
       (filled-then typeWidth mid (m + typeWeight x) (typeRows y (m + typeWeight x)) (typeWords joins ∷ []) (rows-weigh y (m + typeWeight x)) f (g ∙ sym (filled-one typeWidth end (m + typeWeight x + typeWeight y) (typeWords joins))))
 
 -- the record of an operator, as the code has it
-op-row : (o : CodeOp) (x : Ty) (m r : ℕ) → typeWords (recordBy (opInner o (record { 0 = typeNo x m }) (record { 0 = r }))) ≡ typeWords (typeRecord (opKind (treeOp o)) (typeNo x m) r 0)
+op-row : (o : CodeOp) (x : Ty) (m r : ℕ) → typeWords (typeRecordBy (opInner o (record { 0 = typeNo x m }) (record { 0 = r }))) ≡ typeWords (typeRecord (opKind (treeOp o)) (typeNo x m) r 0)
 op-row Plus x m r = refl
 op-row Star x m r = refl
 
@@ -158,12 +158,12 @@ module _ (s t : List ℕ) (n : ℕ) (c : Cursor) (ready : Ready n c) where
         en ∙ filled-two o x y m old is-mid there ∙ ap (filled typeWidth old m) (sym (rows-one o x y m e)),
       )
 
-      join-present : (r : TypeAnswer) (new : List ℕ) → present both-of ≡ true → r ≡ finished f → new ≡ written typeWidth end (nextNumber (f .ty .0)) (typeWords (recordBy (opInner o number right))) → TypeReads s t n c (got both-of q) r old new
+      join-present : (r : TypeAnswer) (new : List ℕ) → present both-of ≡ true → r ≡ finished f → new ≡ written typeWidth end (nextNumber (f .ty .0)) (typeWords (typeRecordBy (opInner o number right))) → TypeReads s t n c (got both-of q) r old new
       unfolding typeWeight
       join-present r new e er en =
           let g : Cursor = record { token = f .token; expr = f .expr; ty = record { 0 = nextNumber (f .ty .0) } } in
           let no : typeNo both-of m ≡ nextNumber (f .ty .0) = rw e (omega (arith, next)) in
-          let row : typeWords (recordBy (opInner o number right)) ≡ typeWords (joins o x y m) = op-row o x m (typeNo y (d .ty .0)) ∙ ap (λ (k : ℕ). typeWords (typeRecord (opKind (treeOp o)) (typeNo x m) (typeNo y k) 0)) from in (
+          let row : typeWords (typeRecordBy (opInner o number right)) ≡ typeWords (joins o x y m) = op-row o x m (typeNo y (d .ty .0)) ∙ ap (λ (k : ℕ). typeWords (typeRecord (opKind (treeOp o)) (typeNo x m) (typeNo y k) 0)) from in (
             g,
             er ∙ ap (λ (k : ℕ). Read (record { 0 = k }) g) (sym no),
             rw e (reached g 1 (omega arith) refl refl (omega (arith, next, count))),
@@ -171,8 +171,8 @@ module _ (s t : List ℕ) (n : ℕ) (c : Cursor) (ready : Ready n c) where
           )
 
       -- by which operands are present
-      join-got : (r : TypeAnswer) (new : List ℕ) → r ≡ joined number (Read right f) → new ≡ joinedTable o number (Read right f) end → TypeReads s t n c (got both-of q) r old new
-      unfolding joined joinedTable present
+      join-got : (r : TypeAnswer) (new : List ℕ) → r ≡ operatorRead number (Read right f) → new ≡ joinedTable o number (Read right f) end → TypeReads s t n c (got both-of q) r old new
+      unfolding operatorRead joinedTable present
       join-got r new er en = go (present x) refl (present y) refl
         where
           some : (v : Ty) (k : ℕ) → present v ≡ true → eqb (k + typeWeight v) 0 ≡ false
@@ -187,12 +187,12 @@ module _ (s t : List ℕ) (n : ℕ) (c : Cursor) (ready : Ready n c) where
               join-present r new (rw (ea, eb)) (er ∙ if-both _ _ _ nx ny) (en ∙ if-both _ _ _ nx ny)
 
     -- whatever the right operand is
-    join-reads : (Q : Parsed Ty) (p r : TypeAnswer) (end new : List ℕ) → TypeReads s t n (stepped d) Q p mid end → r ≡ joined number p → new ≡ joinedTable o number p end → TypeReads s t n c (joinedTo Q) r old new
-    unfolding goOn joined joinedTable
-    join-reads (got y q) p r end new h er en = join-got y (h .0) q end (h .2) (h .3) r new (er ∙ ap (joined number) (h .1)) (en ∙ ap (λ (v : TypeAnswer). joinedTable o number v end) (h .1))
+    join-reads : (Q : Parsed Ty) (p r : TypeAnswer) (end new : List ℕ) → TypeReads s t n (stepped d) Q p mid end → r ≡ operatorRead number p → new ≡ joinedTable o number p end → TypeReads s t n c (joinedTo Q) r old new
+    unfolding goOn operatorRead joinedTable
+    join-reads (got y q) p r end new h er en = join-got y (h .0) q end (h .2) (h .3) r new (er ∙ ap (operatorRead number) (h .1)) (en ∙ ap (λ (v : TypeAnswer). joinedTable o number v end) (h .1))
     join-reads (stop z q) p r end new h er en =
         let same : new ≡ end = en ∙ ap (λ (v : TypeAnswer). joinedTable o number v end) (h .0) in
-        (er ∙ ap (joined number) (h .0), ap (beyond typeWidth) same ∙ h .1 ∙ filled-stays x m old mid is-mid)
+        (er ∙ ap (operatorRead number) (h .0), ap (beyond typeWidth) same ∙ h .1 ∙ filled-stays x m old mid is-mid)
 
 -- ---- the loop over operators
 
@@ -272,7 +272,7 @@ module _ (checks : Checks) (d : ℕ) where
     going-done i p old new k (got x (u ∷ rest), h, l) = absurd (omega (arith, l .3))
 
     -- an operator and its right operand
-    pub going-on : (i : ℕ) (o : CodeOp) (l : TypeNo) (e : Cursor) (p q r : TypeAnswer) (old mid end new : List ℕ) → i < n → Going i p old mid → operatorAt s t n p ≡ Is o l e → (Ready n e → TypeReads s t n e (A (tokensLeft s t n (e .token .0))) q mid end) → r ≡ joined l q → new ≡ joinedTable o l q end → Going (i + 1) r old new
+    pub going-on : (i : ℕ) (o : CodeOp) (l : TypeNo) (e : Cursor) (p q r : TypeAnswer) (old mid end new : List ℕ) → i < n → Going i p old mid → operatorAt s t n p ≡ Is o l e → (Ready n e → TypeReads s t n e (A (tokensLeft s t n (e .token .0))) q mid end) → r ≡ operatorRead l q → new ≡ joinedTable o l q end → Going (i + 1) r old new
     unfolding Going Left operatorAt
     going-on i o l e p q r old mid end new k (stop x rest, h, g) is reads er en =
         let z : Over ≡ Is o l e = sym (ap (operatorAt s t n) (h .0)) ∙ is in let y : _≡_ {A = ℕ} 0 1 = cc in absurd (omega arith)
@@ -299,7 +299,7 @@ module _ (checks : Checks) (d : ℕ) where
             let right : TypeReads s t n (stepped f) (A later) q mid end =
             subst (λ (v : List Token). TypeReads s t n (stepped f) (A v) q mid end) (behind .left) (subst (λ (v : Cursor). Ready n v → TypeReads s t n v (A (tokensLeft s t n (v .token .0))) q mid end) (sym ee) reads (reached-ready s t n ready behind)) in
             let whole : TypeReads s t n c (goOn (A later) (λ y. got (tree.op (treeOp o) x y))) r old new =
-            join-reads s t n c ready o x f u later old mid to-f (h .3) (A later) q r end new right (er ∙ ap (λ (v : TypeNo). joined v q) (sym el)) (en ∙ ap (λ (v : TypeNo). joinedTable o v q end) (sym el)) in
+            join-reads s t n c ready o x f u later old mid to-f (h .3) (A later) q r end new right (er ∙ ap (λ (v : TypeNo). operatorRead v q) (sym el)) (en ∙ ap (λ (v : TypeNo). joinedTable o v q end) (sym el)) in
             let turns : n - i ≡ suc (n - (i + 1)) = omega arith in
             let g' : Left W (got x (u ∷ later)) (suc (n - (i + 1))) = subst (λ (v : List Token). Left W (got x v) (suc (n - (i + 1)))) eq (subst (Left W (got x rest)) turns g) in
             let ep' : perhaps operators (u ∷ later) ≡ got (some (treeOp o)) later = ap (perhaps operators) (sym eq) ∙ ep ∙ ap (λ (v : CodeOp). got (some (treeOp v)) later) eo in

@@ -24,18 +24,18 @@ use Rattle.types.specs.declared.TypeInner.{TypeInner}
 use Rattle.types.specs.declared.TypeInner.the-variants.{Name, One, Two, TwoTwoN}
 use Rattle.types.specs.declared.AtomHead.{AtomHead}
 use Rattle.types.specs.declared.AtomHead.the-variants.{Whole, Absent, Group, Refused as NoAtom}
-use Rattle.types.specs.Answers.{recordBy, Leaf, powerInner, powerHead, HeadAt}
+use Rattle.types.specs.Answers.{typeRecordBy, LeafType, powerInner, powerHead, HeadAt}
 
 -- the types of one record
-leaf-one : Leaf tree.one One
+leaf-one : LeafType tree.one One
 unfolding present typeWeight typeRecords
 leaf-one = record { here = refl; one = refl; row = λ m. refl }
 
-leaf-two : Leaf tree.two Two
+leaf-two : LeafType tree.two Two
 unfolding present typeWeight typeRecords
 leaf-two = record { here = refl; one = refl; row = λ m. refl }
 
-leaf-power : (n : ℕ) → Leaf (powerOf n) (powerInner n)
+leaf-power : (n : ℕ) → LeafType (powerOf n) (powerInner n)
 unfolding present typeWeight typeRecords
 leaf-power zero = record { here = refl; one = refl; row = λ m. refl }
 leaf-power (suc n) = record { here = refl; one = refl; row = λ m. refl }
@@ -48,7 +48,7 @@ module _ (source jets : List ℕ) (r : TokenRecord) (rest : List Token) (c : Cur
   pub head-name : r .kind .0 ≡ token.number token.symbol → r ≡ recordOf t → HeadAt jets t rest c (Whole (Name (r .span)) c)
   unfolding typeHead choice entry goOn present typeWeight typeRecords
   head-name e f =
-      let row : (m : ℕ) → typeRecords (tree.name t) m ≡ recordBy (Name (r .span)) ∷ [] = λ m. ap (λ (q : TokenRecord). recordBy (Name (q .span)) ∷ []) (sym f) in
+      let row : (m : ℕ) → typeRecords (tree.name t) m ≡ typeRecordBy (Name (r .span)) ∷ [] = λ m. ap (λ (q : TokenRecord). typeRecordBy (Name (q .span)) ∷ []) (sym f) in
       (tree.name t, rw e, record { here = refl; one = refl; row = row }, refl)
 
   pub head-group : r .kind .0 ≡ token.number token.lparen → HeadAt jets t rest c (Group c)

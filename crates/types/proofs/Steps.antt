@@ -40,21 +40,21 @@ use Rattle.types.specs.declared.AtomHead.the-variants.{Whole, Refused as
 use Rattle.types.specs.declared.Op.{Op}
 use Rattle.types.specs.declared.Op.the-variants.{Sum as Plus, Product as Star}
 use Rattle.types.specs.declared.Operator.the-variants.{Is, Over}
-use Rattle.types.specs.Answers.{recordBy, finished, powerHead, HeadAt, HeadReads, closed, operatorAt, joined, joinedTable, opInner}
+use Rattle.types.specs.Answers.{typeRecordBy, finished, powerHead, HeadAt, AtomHeadReads, closedType, operatorAt, operatorRead, joinedTable, opInner}
 
 -- ---- closing
 
 module _ (s t : List ℕ) (n : ℕ) {p : TypeAnswer} where
-  pub closed-passed : {k : TypeNo} {c d : Cursor} {x : Expected} → p ≡ Read k c → x ≡ expected (length s) c (token.number token.rparen) (tokensLeft s t n (c .token .0)) → x ≡ Passed d → Read k d ≡ closed s t n p
-  unfolding closed
+  pub closed-passed : {k : TypeNo} {c d : Cursor} {x : Expected} → p ≡ Read k c → x ≡ expected (length s) c (token.number token.rparen) (tokensLeft s t n (c .token .0)) → x ≡ Passed d → Read k d ≡ closedType s t n p
+  unfolding closedType
   closed-passed e f g = rw (e, ← f, g)
 
-  pub closed-refused : {k : TypeNo} {c : Cursor} {r : ParseRefusal} {x : Expected} → p ≡ Read k c → x ≡ expected (length s) c (token.number token.rparen) (tokensLeft s t n (c .token .0)) → x ≡ NotPassed r → Refused r ≡ closed s t n p
-  unfolding closed
+  pub closed-refused : {k : TypeNo} {c : Cursor} {r : ParseRefusal} {x : Expected} → p ≡ Read k c → x ≡ expected (length s) c (token.number token.rparen) (tokensLeft s t n (c .token .0)) → x ≡ NotPassed r → Refused r ≡ closedType s t n p
+  unfolding closedType
   closed-refused e f g = rw (e, ← f, g)
 
-  pub closed-none : {r : ParseRefusal} → p ≡ Refused r → Refused r ≡ closed s t n p
-  unfolding closed
+  pub closed-none : {r : ParseRefusal} → p ≡ Refused r → Refused r ≡ closedType s t n p
+  unfolding closedType
   closed-none e = rw e
 
   -- ---- an operator
@@ -93,22 +93,22 @@ module _ (s t : List ℕ) (n : ℕ) {p : TypeAnswer} where
 -- ---- joining
 
 module _ (o : Op) (l : TypeNo) (old : List ℕ) {p : TypeAnswer} where
-  pub join-refused : {r : ParseRefusal} → p ≡ Refused r → (p ≡ joined l p) × (old ≡ joinedTable o l p old)
-  unfolding joined joinedTable
+  pub join-refused : {r : ParseRefusal} → p ≡ Refused r → (p ≡ operatorRead l p) × (old ≡ joinedTable o l p old)
+  unfolding operatorRead joinedTable
   join-refused e = rw e (refl, refl)
 
   module _ (r : TypeNo) (c : Cursor) (e : p ≡ Read r c) where
-    pub join-left : l .0 ≡ 0 → (Read (record { 0 = 0 }) c ≡ joined l p) × (old ≡ joinedTable o l p old)
-    unfolding joined joinedTable
+    pub join-left : l .0 ≡ 0 → (Read (record { 0 = 0 }) c ≡ operatorRead l p) × (old ≡ joinedTable o l p old)
+    unfolding operatorRead joinedTable
     join-left f = rw (e, eq-eqb (l .0) 0 f) (refl, refl)
 
     module _ (nl : ¬ (l .0 ≡ 0)) where
-      pub join-right : r .0 ≡ 0 → (Read (record { 0 = 0 }) c ≡ joined l p) × (old ≡ joinedTable o l p old)
-      unfolding joined joinedTable
+      pub join-right : r .0 ≡ 0 → (Read (record { 0 = 0 }) c ≡ operatorRead l p) × (old ≡ joinedTable o l p old)
+      unfolding operatorRead joinedTable
       join-right f = rw (e, ne-eqb (l .0) 0 nl, eq-eqb (r .0) 0 f) (refl, refl)
 
-      pub join-both : {q : TypeAnswer} {new : List ℕ} (i : TypeInner) (k : Op) → o ≡ k → i ≡ opInner k l r → ¬ (r .0 ≡ 0) → q ≡ finished c → new ≡ written typeWidth old (nextNumber (c .ty .0)) (typeWords (recordBy i)) → (q ≡ joined l p) × (new ≡ joinedTable o l p old)
-      unfolding joined joinedTable
+      pub join-both : {q : TypeAnswer} {new : List ℕ} (i : TypeInner) (k : Op) → o ≡ k → i ≡ opInner k l r → ¬ (r .0 ≡ 0) → q ≡ finished c → new ≡ written typeWidth old (nextNumber (c .ty .0)) (typeWords (typeRecordBy i)) → (q ≡ operatorRead l p) × (new ≡ joinedTable o l p old)
+      unfolding operatorRead joinedTable
       join-both i k eo ei f eq en = rw (e, ne-eqb (l .0) 0 nl, ne-eqb (r .0) 0 f, eo, ← ei) (eq, en)
 
 -- ---- powers
@@ -127,10 +127,10 @@ module _ {v w : PowerVerdict} (at : ByteOffset) (c : Cursor) (e : v ≡ w) where
 -- ---- what begins at the cursor
 
 module _ (s t : List ℕ) (n : ℕ) (c : Cursor) (a : Ahead) (f : a ≡ peeked c (tokensLeft s t n (c .token .0))) where
-  pub head-end : a ≡ End → (jets : List ℕ) → HeadReads jets (length s) c (tokensLeft s t n (c .token .0)) (NoAtom (refusalAt (length s) ParseFailed []))
+  pub head-end : a ≡ End → (jets : List ℕ) → AtomHeadReads jets (length s) c (tokensLeft s t n (c .token .0)) (NoAtom (refusalAt (length s) ParseFailed []))
   head-end g jets = rw (ahead-end c a (tokensLeft s t n (c .token .0)) f g) refl
 
-  pub head-next : (r : TokenRecord) (d : Cursor) (h : AtomHead) → a ≡ Next r d → ((jets : List ℕ) (rest : List Token) → r ≡ recordOf (tokenOf s r) → HeadAt jets (tokenOf s r) rest d h) → (jets : List ℕ) → HeadReads jets (length s) c (tokensLeft s t n (c .token .0)) h
+  pub head-next : (r : TokenRecord) (d : Cursor) (h : AtomHead) → a ≡ Next r d → ((jets : List ℕ) (rest : List Token) → r ≡ recordOf (tokenOf s r) → HeadAt jets (tokenOf s r) rest d h) → (jets : List ℕ) → AtomHeadReads jets (length s) c (tokensLeft s t n (c .token .0)) h
   head-next r d h g w jets =
       let x = ahead-next c a (tokensLeft s t n (c .token .0)) r d f g in
       let below = some-left s t n (c .token .0) (x .0) (x .1) (x .2) in
@@ -139,9 +139,9 @@ module _ (s t : List ℕ) (n : ℕ) (c : Cursor) (a : Ahead) (f : a ≡ peeked c
       let again : tokenOf s r ≡ x .0 = ap (tokenOf s) (x .3) ∙ ap (λ (u : Token). tokenOf s (recordOf u)) is ∙ token-again s t (c .token .0 + 1) ∙ sym is in
       let own : r ≡ recordOf (tokenOf s r) = x .3 ∙ ap recordOf (sym again) in
       let here : HeadAt jets (x .0) (x .1) (stepped c) h = subst (λ (u : Token). HeadAt jets u (x .1) (stepped c) h) again (subst (λ (q : Cursor). HeadAt jets (tokenOf s r) (x .1) q h) (x .4) (w jets (x .1) own)) in
-      subst (λ (ts : List Token). HeadReads jets (length s) c ts h) (sym (x .2)) here
+      subst (λ (ts : List Token). AtomHeadReads jets (length s) c ts h) (sym (x .2)) here
 
 -- ---- recording
 
-pub finish-is : (c : Cursor) (old : List ℕ) (i : TypeInner) {n : ℕ} {r : TypeRecord} {w new : List ℕ} → n ≡ nextNumber (c .ty .0) → r ≡ recordBy i → w ≡ typeWords r → new ≡ written typeWidth old n w → (Read (record { 0 = n }) (record { token = c .token; expr = c .expr; ty = record { 0 = n } }) ≡ finished c) × (new ≡ written typeWidth old (nextNumber (c .ty .0)) (typeWords (recordBy i)))
+pub finish-is : (c : Cursor) (old : List ℕ) (i : TypeInner) {n : ℕ} {r : TypeRecord} {w new : List ℕ} → n ≡ nextNumber (c .ty .0) → r ≡ typeRecordBy i → w ≡ typeWords r → new ≡ written typeWidth old n w → (Read (record { 0 = n }) (record { token = c .token; expr = c .expr; ty = record { 0 = n } }) ≡ finished c) × (new ≡ written typeWidth old (nextNumber (c .ty .0)) (typeWords (typeRecordBy i)))
 finish-is c old i en er ew e = (rw en, e ∙ rw (en, ew, er))

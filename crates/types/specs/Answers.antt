@@ -59,13 +59,13 @@ TypeReads s t n c (stop x rest) r old new = (r ≡ Refused (refusalAt (length s)
 -- ---- on the way
 
 -- the record of a type; for a name, start and length stand in left and right
-abbrev pub recordBy : TypeInner → TypeRecord
-recordBy (Name s) = typeRecord kind.name (s .start .0) (s .len) 0
-recordBy One = typeRecord kind.one 0 0 0
-recordBy Two = typeRecord kind.two 0 0 0
-recordBy (Product l r) = typeRecord kind.product (l .0) (r .0) 0
-recordBy (Sum l r) = typeRecord kind.sum (l .0) (r .0) 0
-recordBy (TwoTwoN n) = typeRecord kind.power 0 0 n
+abbrev pub typeRecordBy : TypeInner → TypeRecord
+typeRecordBy (Name s) = typeRecord kind.name (s .start .0) (s .len) 0
+typeRecordBy One = typeRecord kind.one 0 0 0
+typeRecordBy Two = typeRecord kind.two 0 0 0
+typeRecordBy (Product l r) = typeRecord kind.product (l .0) (r .0) 0
+typeRecordBy (Sum l r) = typeRecord kind.sum (l .0) (r .0) 0
+typeRecordBy (TwoTwoN n) = typeRecord kind.power 0 0 n
 
 -- the cursor with one type more, which is the answer
 abbrev pub finished : Cursor → TypeAnswer
@@ -73,10 +73,10 @@ finished c =
     Read (record { 0 = nextNumber (c .ty .0) }) (record { token = c .token; expr = c .expr; ty = record { 0 = nextNumber (c .ty .0) } })
 
 -- a type of one record
-pub record Leaf (x : Ty) (i : TypeInner) : Type 0 where
+pub record LeafType (x : Ty) (i : TypeInner) : Type 0 where
   pub here : present x ≡ true
   pub one : typeWeight x ≡ 1
-  pub row : (m : ℕ) → typeRecords x m ≡ recordBy i ∷ []
+  pub row : (m : ℕ) → typeRecords x m ≡ typeRecordBy i ∷ []
 
 -- by whether a power is 2^1
 abbrev pub powerInner : ℕ → TypeInner
@@ -89,25 +89,25 @@ powerHead (BadPower x) at c = NoAtom (record { fault = x; at = at })
 
 -- what the grammar says of an atom's head that begins with the token t, the cursor c standing behind t
 abbrev pub HeadAt : (jets : List ℕ) → (t : Token) → (rest : List Token) → Cursor → AtomHead → Type 0
-HeadAt jets t rest c (Whole i d) = (x : Ty) × (typeHead (checksOf jets) (t ∷ rest) ≡ got (whole x) rest) × Leaf x i × (d ≡ c)
+HeadAt jets t rest c (Whole i d) = (x : Ty) × (typeHead (checksOf jets) (t ∷ rest) ≡ got (whole x) rest) × LeafType x i × (d ≡ c)
 HeadAt jets t rest c (Absent d) = (typeHead (checksOf jets) (t ∷ rest) ≡ got (whole tree.absent) rest) × (d ≡ c)
 HeadAt jets t rest c (Group d) = (typeHead (checksOf jets) (t ∷ rest) ≡ got group rest) × (d ≡ c)
 HeadAt jets t rest c (NoAtom r) =
     (x : Fault) × (typeHead (checksOf jets) (t ∷ rest) ≡ stop x (t ∷ rest)) × (r ≡ record { fault = x; at = record { 0 = t .start } })
 
 -- the same where the cursor c stands before the tokens that are left
-abbrev pub HeadReads : (jets : List ℕ) → (end : ℕ) → Cursor → List Token → AtomHead → Type 0
-HeadReads jets end c [] h = h ≡ NoAtom (refusalAt end ParseFailed [])
-HeadReads jets end c (t ∷ rest) h = HeadAt jets t rest (stepped c) h
+abbrev pub AtomHeadReads : (jets : List ℕ) → (end : ℕ) → Cursor → List Token → AtomHead → Type 0
+AtomHeadReads jets end c [] h = h ≡ NoAtom (refusalAt end ParseFailed [])
+AtomHeadReads jets end c (t ∷ rest) h = HeadAt jets t rest (stepped c) h
 
-abbrev closedBy : TypeNo → Expected → TypeAnswer
-closedBy number (Passed d) = Read number d
-closedBy number (NotPassed r) = Refused r
+abbrev closedTypeBy : TypeNo → Expected → TypeAnswer
+closedTypeBy number (Passed d) = Read number d
+closedTypeBy number (NotPassed r) = Refused r
 
 -- behind a type: a closing parenthesis
-unfoldable pub closed : (source tokens : List ℕ) → (n : ℕ) → TypeAnswer → TypeAnswer
-closed s t n (Read number c) = closedBy number (expected (length s) c (token.number token.rparen) (tokensLeft s t n (c .token .0)))
-closed s t n (Refused r) = Refused r
+unfoldable pub closedType : (source tokens : List ℕ) → (n : ℕ) → TypeAnswer → TypeAnswer
+closedType s t n (Read number c) = closedTypeBy number (expected (length s) c (token.number token.rparen) (tokensLeft s t n (c .token .0)))
+closedType s t n (Refused r) = Refused r
 
 abbrev pub operatorBy : TypeNo → Cursor → List Token → Operator
 operatorBy l c [] = Over
@@ -126,16 +126,16 @@ opInner Plus l r = Sum l r
 opInner Star l r = Product l r
 
 -- a type's number of 0 is an absent type
-unfoldable pub joined : TypeNo → TypeAnswer → TypeAnswer
-joined l (Read r c) =
+unfoldable pub operatorRead : TypeNo → TypeAnswer → TypeAnswer
+operatorRead l (Read r c) =
     if eqb (l .0) 0 then Read (record { 0 = 0 }) c
     else if eqb (r .0) 0 then Read (record { 0 = 0 }) c
     else finished c
-joined l (Refused r) = Refused r
+operatorRead l (Refused r) = Refused r
 
 unfoldable pub joinedTable : Op → TypeNo → TypeAnswer → List ℕ → List ℕ
 joinedTable o l (Read r c) old =
     if eqb (l .0) 0 then old
     else if eqb (r .0) 0 then old
-    else written typeWidth old (nextNumber (c .ty .0)) (typeWords (recordBy (opInner o l r)))
+    else written typeWidth old (nextNumber (c .ty .0)) (typeWords (typeRecordBy (opInner o l r)))
 joinedTable o l (Refused r) old = old

@@ -12,7 +12,7 @@ ghost use Rattle.literals.specs.Literals.{spanText};
 ghost use Rattle.cursor.specs.Tokens.{tokenOf, tokensLeft};
 ghost use Rattle.cursor.specs.Cursor.{nextNumber, Ready};
 ghost use Rattle.grammar.specs.Grammar.{type, atom};
-ghost use Rattle.types.specs.Answers.{recordBy, finished, powerHead, HeadAt, HeadReads, closed, operatorAt, joined, joinedTable, TypeReads};
+ghost use Rattle.types.specs.Answers.{typeRecordBy, finished, powerHead, HeadAt, AtomHeadReads, closedType, operatorAt, operatorRead, joinedTable, TypeReads};
 use checks::Fault;
 use checks::PowerVerdict;
 use cursor::Ahead;
@@ -90,7 +90,7 @@ fn paired(kind: u32, left: u32, right: u32) -> TypeRecord
 impl TypeInner {
     // The record of a type.
     fn record(self) -> TypeRecord
-        ensures { λ r. ⌜ r ≡ recordBy self ⌝ }
+        ensures { λ r. ⌜ r ≡ typeRecordBy self ⌝ }
     {
         match self {
             TypeInner::Name(span) => {
@@ -109,7 +109,7 @@ impl TypeInner {
 // Records a complete type, and answers with its number.
 fn finish(types: &mut [u32], c: Cursor, inner: TypeInner) -> TypeAnswer
     ensures answer { λ r. ⌜ r ≡ finished c ⌝ }
-    ensures table { λ _. ⌜ now (types .exit) ≡ written typeWidth (now (types .entry)) (nextNumber (c .ty .0)) (typeWords (recordBy inner)) ⌝ }
+    ensures table { λ _. ⌜ now (types .exit) ≡ written typeWidth (now (types .entry)) (nextNumber (c .ty .0)) (typeWords (typeRecordBy inner)) ⌝ }
 {
     let token = c.token;
     let expr = c.expr;
@@ -169,7 +169,7 @@ fn head_of(source: &[u8], t: TokenRecord, c: Cursor) -> AtomHead
 // What begins an atom at the cursor.
 fn type_head(source: &[u8], tokens: &[u32], count: u32, c: Cursor) -> AtomHead
     requires { ⌜ length (now source) ≤ sourceLimit ⌝ }
-    ensures { λ r. ⌜ ((jets : List ℕ) → HeadReads jets (length (now (source .entry))) c (tokensLeft (now (source .entry)) (now (tokens .entry)) count (c .token .0)) r) ⌝ }
+    ensures { λ r. ⌜ ((jets : List ℕ) → AtomHeadReads jets (length (now (source .entry))) c (tokensLeft (now (source .entry)) (now (tokens .entry)) count (c .token .0)) r) ⌝ }
 {
     match cursor::peek(source, tokens, count, c) {
         Ahead::End => AtomHead::Refused(ParseRefusal {
@@ -183,7 +183,7 @@ fn type_head(source: &[u8], tokens: &[u32], count: u32, c: Cursor) -> AtomHead
 // Passes the parenthesis behind a type.
 fn close(source: &[u8], tokens: &[u32], count: u32, p: TypeAnswer) -> TypeAnswer
     requires { ⌜ length (now source) ≤ sourceLimit ⌝ }
-    ensures { λ r. ⌜ r ≡ closed (now (source .entry)) (now (tokens .entry)) count p ⌝ }
+    ensures { λ r. ⌜ r ≡ closedType (now (source .entry)) (now (tokens .entry)) count p ⌝ }
 {
     match p {
         TypeAnswer::Read(number, c) => {
@@ -219,7 +219,7 @@ fn next_operator(source: &[u8], tokens: &[u32], count: u32, p: TypeAnswer) -> Op
 
 // The type of an operator and its operands: an absent one makes the whole absent.
 fn join(types: &mut [u32], op: Op, left: TypeNo, p: TypeAnswer) -> TypeAnswer
-    ensures answer { λ r. ⌜ r ≡ joined left p ⌝ }
+    ensures answer { λ r. ⌜ r ≡ operatorRead left p ⌝ }
     ensures table { λ _. ⌜ now (types .exit) ≡ joinedTable op left p (now (types .entry)) ⌝ }
 {
     let TypeAnswer::Read(right, c) = p else {

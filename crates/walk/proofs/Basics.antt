@@ -11,7 +11,7 @@ use lib.Dec.{leb, eqb, T, leb→le, le→leb, eqb→eq, eqb-refl, not-T}
 use Rattle.records.specs.Base.{if_then_else_}
 use Rattle.records.specs.NodeKind as node
 use Rattle.records.specs.NodeKind.{PartKind}
-use Rattle.walk.specs.Walk.{Head, Own, ownKind, Tree, none, part, refer, Node, Status, fresh, begun, finished, State, Walked, marked, mark, finish, resolve, isFresh, walk}
+use Rattle.walk.specs.Walk.{NodeHead, Own, ownKind, Tree, none, part, refer, Node, Status, fresh, begun, finished, State, Walked, marked, mark, finish, resolve, isFresh, walk}
 use Rattle.walk.specs.Walk.{Legal, ready, whole, wholeIf, visitIn, visit, namesTo, unwalked, final}
 
 -- ---- tests

@@ -7,7 +7,7 @@ use mathlib.Core.Logic.{_⊎_, inl, inr, _≢_}
 use mathlib.Core.List.{List, [], _∷_, _++_, map}
 use native.Mathlib.Omega.{arith}
 use lib.ListN.{length}
-use Rattle.walk.specs.Walk.{Head, Own, ownKind, Tree, none, part, refer, Node, Status, fresh, begun, finished, State, Walked, marked, mark, resolve, walk}
+use Rattle.walk.specs.Walk.{NodeHead, Own, ownKind, Tree, none, part, refer, Node, Status, fresh, begun, finished, State, Walked, marked, mark, resolve, walk}
 use Rattle.walk.specs.Walk.{ready, whole, wholeIf, visitIn, visit, namesTo, unwalked, final}
 use Rattle.walk.proofs.Basics.{same?, marked-same, marked-other, not-fresh-done, not-fresh-begun, length-snoc, Grows, walk-begun, ready-true, visit-in-grow}
 use Rattle.walk.proofs.Fuel.{sum-begin, sum-same, all-done}
@@ -41,8 +41,8 @@ sum-none f (suc n) st h = omega (arith, sum-none f n st (λ m l. h m (l .0, omeg
 -- each node weighs what the part does that it is made of, whatever its children are and whether its name is finished
 pub record Weighs (g : Node → ℕ) (t : Tree → ℕ) : Type 0 where
   pub absent : t none ≡ 0
-  pub own : (k : Own) (h : Head) (l r : Tree) (a b : ℕ) → t (part k h l r) ≡ g (nodeOf k h a b) + (t l + t r)
-  pub used : (h : Head) (n : ℕ) (v : Status) → t (refer h n) ≡ g (resolve h v)
+  pub own : (k : Own) (h : NodeHead) (l r : Tree) (a b : ℕ) → t (part k h l r) ≡ g (nodeOf k h a b) + (t l + t r)
+  pub used : (h : NodeHead) (n : ℕ) (v : Status) → t (refer h n) ≡ g (resolve h v)
 
 pub sum-append : {A : Type 0} (f : A → ℕ) (xs ys : List A) → sum (map f (xs ++ ys)) ≡ sum (map f xs) + sum (map f ys)
 unfolding sum

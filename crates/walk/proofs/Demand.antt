@@ -15,7 +15,7 @@ use Rattle.symbols.specs.Symbols.{Text, texts, find}
 use Rattle.names.specs.Names.{namesOf}
 use Rattle.names.specs.Uses.{HasLine, HasReference, Uses, one, more, Loop, Sound}
 use Rattle.names.proofs.Laws.{in-names, names-in}
-use Rattle.walk.specs.Walk.{Head, Own, noexpr, of, ownKind, Tree, refer, Node, final}
+use Rattle.walk.specs.Walk.{NodeHead, Own, noexpr, of, ownKind, Tree, refer, Node, final}
 use Rattle.walk.specs.Trees.{recordNo, treeOf}
 use Rattle.walk.specs.Nodes.{walked, nodesOf, nodeNo}
 use Rattle.walk.specs.Stands.{PartOf}
@@ -58,7 +58,7 @@ module _ (ls : List Line) where
   Within b n = (x y : Token) → recordNo (names ls) b ≡ some x → recordNo (names ls) n ≡ some y → Loop ls (y .text) (x .text)
 
   -- so it leads to what the tree of n uses
-  deeper : (b n m : ℕ) (h : Head) → Legal (count ls) n → Legal (count ls) m → PartOf (refer h m) (tree ls n) → Within b n → Within b m
+  deeper : (b n m : ℕ) (h : NodeHead) → Legal (count ls) n → Legal (count ls) m → PartOf (refer h m) (tree ls n) → Within b n → Within b m
   deeper b n m h ln lm p w x y e f =
       let z = record-at (names ls) n (ln .0) (ln .1) in
       let r = reference-of ls n (z .0) (z .1) h m p in
@@ -69,7 +69,7 @@ module _ (ls : List Line) where
       go z u (inr l) = inr (more z (y .text) l u)
 
   -- a reference in the tree of n to a name that is begun, or has no legal line
-  on-loop : (n : ℕ) (h : Head) (m : ℕ) (x : Node) → x .head ≡ h → Legal (count ls) n → PartOf (refer h m) (tree ls n)
+  on-loop : (n : ℕ) (h : NodeHead) (m : ℕ) (x : Node) → x .head ≡ h → Legal (count ls) n → PartOf (refer h m) (tree ls n)
       → Within m n ⊎ (Legal (count ls) m → ⊥) → OnLoop ls x
   on-loop n h m x hd ln p c =
       let z = record-at (names ls) n (ln .0) (ln .1) in
@@ -78,7 +78,7 @@ module _ (ls : List Line) where
         holder = z .0 .text;
         used = r .0;
         reference = r .1;
-        span = ap (λ (g : Head). g .span) hd ∙ r .3;
+        span = ap (λ (g : NodeHead). g .span) hd ∙ r .3;
         loop = λ l. go (z .0) (z .1) (r .0 .text) (r .2) (line-found ls (r .0 .text) l) c;
       }
     where

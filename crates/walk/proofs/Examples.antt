@@ -8,12 +8,12 @@ use Rattle.records.specs.NodeKind as node
 use Rattle.names.proofs.Examples as names
 use Rattle.names.proofs.Examples.{linesOf}
 use Rattle.walk.specs.Walk.{marked, walk, whole, wholeIf, visitIn, visit, namesTo, final}
-use Rattle.walk.specs.Trees.{numbered, outermost, treeBy, recordNo, treeIf, treeOf}
+use Rattle.walk.specs.Trees.{treeOfPart, outermost, treeBy, recordNo, treeIf, treeOf}
 use Rattle.walk.specs.Nodes.{walked, nodesOf, inDegree, nodeRecordsFrom, nodeRecords, nodeRows, nameRecordsFrom, nameRecords, namedRows}
 
 -- where `opened` unfolds, all of these compute
 unfoldable pub opened : ℕ
-unfolding names.opened marked walk whole wholeIf visitIn visit namesTo final numbered outermost treeBy recordNo treeIf treeOf walked inDegree nodeRecordsFrom nodeRecords nameRecordsFrom nameRecords
+unfolding names.opened marked walk whole wholeIf visitIn visit namesTo final treeOfPart outermost treeBy recordNo treeIf treeOf walked inDegree nodeRecordsFrom nodeRecords nameRecordsFrom nameRecords
 opened = 0
 
 abbrev nodes : String → List (List ℕ)

@@ -7,7 +7,7 @@ use mathlib.Core.Logic.{_⊎_, inl, inr, _≢_}
 use mathlib.Core.List.{List, [], _∷_, _++_}
 use native.Mathlib.Omega.{arith}
 use lib.ListN.{length}
-use Rattle.walk.specs.Walk.{Head, Own, ownKind, Tree, none, part, refer, Node, Status, fresh, begun, finished, State, Walked, marked, mark, finish, resolve, walk}
+use Rattle.walk.specs.Walk.{NodeHead, Own, ownKind, Tree, none, part, refer, Node, Status, fresh, begun, finished, State, Walked, marked, mark, finish, resolve, walk}
 use Rattle.walk.specs.Walk.{ready, whole, wholeIf, visit, namesTo}
 use Rattle.walk.proofs.Basics.{same?, marked-same, marked-other, not-fresh-done, length-snoc, ready-true}
 use Rattle.walk.proofs.Fuel.{sum-mono, sum-begin, visit-unroll}

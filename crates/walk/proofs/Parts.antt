@@ -7,7 +7,7 @@ use mathlib.Core.Logic.{_⊎_, inl, inr, _≢_}
 use mathlib.Core.List.{List, [], _∷_, _++_, append-nil}
 use native.Mathlib.Omega.{arith}
 use lib.ListN.{length}
-use Rattle.walk.specs.Walk.{Head, Own, ownKind, Tree, none, part, refer, Node, Status, fresh, begun, finished, State, Walked, mark, finish, resolve, walk}
+use Rattle.walk.specs.Walk.{NodeHead, Own, ownKind, Tree, none, part, refer, Node, Status, fresh, begun, finished, State, Walked, mark, finish, resolve, walk}
 use Rattle.walk.specs.Walk.{ready, whole, wholeIf, visitIn, visit, namesTo, unwalked, final}
 use Rattle.walk.specs.Stands.{PartOf}
 use Rattle.walk.proofs.Basics.{same?, marked-same, marked-other, not-fresh-done, not-begun-done}
@@ -30,14 +30,14 @@ Made Q P s x t = Q (s .nodes) x × P (finish x s .state) (suc (length (s .nodes)
 -- which names b may be begun and not finished while the tree of n is walked.
 pub record Rules (F : ℕ → Tree) (N : ℕ) (Q : List Node → Node → Type 0) (P : State → ℕ → Tree → Type 0) (C : ℕ → ℕ → Type 0) : Type 0 where
   pub begins : (n : ℕ) → C n n
-  pub deeper : (b n m : ℕ) (h : Head) → Legal N n → Legal N m → PartOf (refer h m) (F n) → C b n → C b m
+  pub deeper : (b n m : ℕ) (h : NodeHead) → Legal N n → Legal N m → PartOf (refer h m) (F n) → C b n → C b m
   pub stays : (s t : State) (c : ℕ) (u : Tree) → After s t → P s c u → P t c u
   pub Absent : (s : State) → P s 0 none
-  pub own : (s : State) (n : ℕ) (k : Own) (h : Head) (l r : Tree) (a b : ℕ) → Legal N n → PartOf (part k h l r) (F n)
+  pub own : (s : State) (n : ℕ) (k : Own) (h : NodeHead) (l r : Tree) (a b : ℕ) → Legal N n → PartOf (part k h l r) (F n)
       → P s a l → P s b r → Made Q P s (record { kind = ownKind k; head = h; left = a; right = b }) (part k h l r)
-  pub found : (s : State) (n : ℕ) (h : Head) (m j : ℕ) → Legal N n → PartOf (refer h m) (F n)
+  pub found : (s : State) (n : ℕ) (h : NodeHead) (m j : ℕ) → Legal N n → PartOf (refer h m) (F n)
       → Legal N m → s .status m ≡ finished j → P s j (F m) → Made Q P s (resolve h (finished j)) (refer h m)
-  pub missing : (s : State) (n : ℕ) (h : Head) (m : ℕ) → Legal N n → PartOf (refer h m) (F n)
+  pub missing : (s : State) (n : ℕ) (h : NodeHead) (m : ℕ) → Legal N n → PartOf (refer h m) (F n)
       → C m n ⊎ (Legal N m → ⊥) → Made Q P s (resolve h fresh) (refer h m)
 
 module _ (F : ℕ → Tree) (N : ℕ) (Q : List Node → Node → Type 0) (P : State → ℕ → Tree → Type 0) (C : ℕ → ℕ → Type 0) (rules : Rules F N Q P C) where

@@ -8,7 +8,7 @@ use native.Mathlib.Omega.{arith}
 use lib.ListN.{length, length-append}
 use Rattle.records.specs.NodeKind as node
 use Rattle.grammar.specs.Places.{Each}
-use Rattle.walk.specs.Walk.{Head, Own, ownKind, Tree, part, refer, Node, fresh, finished, State, finish, resolve, final}
+use Rattle.walk.specs.Walk.{NodeHead, Own, ownKind, Tree, part, refer, Node, fresh, finished, State, finish, resolve, final}
 use Rattle.walk.specs.Trees.{recordNo}
 use Rattle.walk.specs.Nodes.{nodeNo}
 use Rattle.walk.specs.Stands.{PartOf}
@@ -28,7 +28,7 @@ Below s c m = ((j : ℕ) × (s .status m ≡ finished j) × (j < c)) ⊎ HasMiss
 
 -- so is each name that the tree uses
 abbrev UsesBelow : State → ℕ → Tree → Type 0
-UsesBelow s c t = (c ≤ length (s .nodes)) × ((h : Head) (m : ℕ) → PartOf (refer h m) t → Below s c m)
+UsesBelow s c t = (c ≤ length (s .nodes)) × ((h : NodeHead) (m : ℕ) → PartOf (refer h m) t → Below s c m)
 
 below-after : (s t : State) (c d m : ℕ) → After s t → c ≤ d → Below s c m → Below t d m
 below-after s t c d m a h (inl p) = inl (p .0, a .names m (p .0) (p .1), omega (arith, p .2))
@@ -66,14 +66,14 @@ module _ (F : ℕ → Tree) (N : ℕ) where
       next : (s : State) (x : Node) → After s (finish x s .state)
       next s x = record { more = x ∷ []; nodes = refl; names = λ m j e. e }
 
-      parts : (s : State) (k : Own) (h : Head) (l r : Tree) (a b : ℕ) (x : Node) → UsesBelow s a l → UsesBelow s b r
-          → (g : Head) (m : ℕ) → (refer g m ≡ part k h l r) ⊎ PartOf (refer g m) l ⊎ PartOf (refer g m) r → Below (finish x s .state) (suc (length (s .nodes))) m
+      parts : (s : State) (k : Own) (h : NodeHead) (l r : Tree) (a b : ℕ) (x : Node) → UsesBelow s a l → UsesBelow s b r
+          → (g : NodeHead) (m : ℕ) → (refer g m ≡ part k h l r) ⊎ PartOf (refer g m) l ⊎ PartOf (refer g m) r → Below (finish x s .state) (suc (length (s .nodes))) m
       parts s k h l r a b x pa pb g m (inl e) = let z : _≡_ {A = ℕ} 0 1 = cc in absurd (omega arith)
       parts s k h l r a b x pa pb g m (inr (inl q)) = below-after s (finish x s .state) a (suc (length (s .nodes))) m (next s x) (omega (arith, pa .0)) (pa .1 g m q)
       parts s k h l r a b x pa pb g m (inr (inr q)) = below-after s (finish x s .state) b (suc (length (s .nodes))) m (next s x) (omega (arith, pb .0)) (pb .1 g m q)
 
   -- A NAME USED HAS A LEGAL LINE AND A LOWER NODE
-  pub used-below : Each (λ (x : Node). x .kind ≢ node.missing) (final F N .nodes) → (n : ℕ) → Legal N n → (h : Head) (m : ℕ) → PartOf (refer h m) (F n)
+  pub used-below : Each (λ (x : Node). x .kind ≢ node.missing) (final F N .nodes) → (n : ℕ) → Legal N n → (h : NodeHead) (m : ℕ) → PartOf (refer h m) (F n)
       → Legal N m × (nodeNo (final F N .status m) < nodeNo (final F N .status n))
   used-below clean n l h m p =
       let d = all-done F N n l in

@@ -16,8 +16,8 @@ use Rattle.names.specs.Names.{namesOf, firstExpression}
 use Rattle.names.specs.Uses.{In, Refers, HasLine, HasReference}
 use Rattle.names.proofs.Laws.{names-in, texts-length, text-in, find-is, find-line, find-stands}
 use Rattle.walk.specs.Walk as walk
-use Rattle.walk.specs.Walk.{Head, Tree}
-use Rattle.walk.specs.Trees.{head, numbered, outermost, treeBy, recordNo, treeIf, treeOf}
+use Rattle.walk.specs.Walk.{NodeHead, Tree}
+use Rattle.walk.specs.Trees.{head, treeOfPart, outermost, treeBy, recordNo, treeIf, treeOf}
 use Rattle.walk.specs.Stands.{PartOf}
 use Rattle.walk.proofs.Numbered.{same-record, record-bounds}
 use Rattle.walk.specs.Walk.{Legal}
@@ -81,14 +81,14 @@ module _ (ls : List Line) where
 -- ---- references of a tree and of an expression
 
 -- the reference t of the part p is that with the head h to the name number m
-abbrev Same : List Token → Part → Head → ℕ → Token → Type 0
+abbrev Same : List Token → Part → NodeHead → ℕ → Token → Type 0
 Same ns p h m t = Refers p t × (find ns (t .text) ≡ m) × (h .span ≡ spanOf t)
 
-not-both : (h : Head) (m : ℕ) (k : walk.Own) (g : Head) (l r : Tree) → walk.refer h m ≡ walk.part k g l r → ⊥
+not-both : (h : NodeHead) (m : ℕ) (k : walk.Own) (g : NodeHead) (l r : Tree) → walk.refer h m ≡ walk.part k g l r → ⊥
 not-both h m k g l r e = let z : _≡_ {A = ℕ} 0 1 = cc in omega arith
 
-numbered-refers : (ns : List Token) (p : Part) (h : Head) (m : ℕ) → PartOf (walk.refer h m) (numbered ns p) → (t : Token) × Same ns p h m t
-unfolding numbered PartOf Refers
+numbered-refers : (ns : List Token) (p : Part) (h : NodeHead) (m : ℕ) → PartOf (walk.refer h m) (treeOfPart ns p) → (t : Token) × Same ns p h m t
+unfolding treeOfPart PartOf Refers
 numbered-refers ns part.none h m q = absurd q
 numbered-refers ns (part.part k at s l r) h m (inl e) = absurd (not-both h m _ _ _ _ e)
 numbered-refers ns (part.part k at s l r) h m (inr (inl q)) = let x = numbered-refers ns l h m q in (x .0, (inl (x .1 .0), x .1 .1, x .1 .2))
@@ -96,9 +96,9 @@ numbered-refers ns (part.part k at s l r) h m (inr (inr q)) = let x = numbered-r
 numbered-refers ns (part.refer x) h m e =
     let a : h ≡ head (x .start) 0 (spanOf x) = cc in
     let b : m ≡ find ns (x .text) = cc in
-    (x, (refl, sym b, ap (λ (g : Head). g .span) a))
+    (x, (refl, sym b, ap (λ (g : NodeHead). g .span) a))
 
-outermost-refers : (n : ℕ) (x : Token) (u : Tree) (h : Head) (m : ℕ) → PartOf (walk.refer h m) (outermost n x u) → (g : Head) × PartOf (walk.refer g m) u × (h .span ≡ g .span)
+outermost-refers : (n : ℕ) (x : Token) (u : Tree) (h : NodeHead) (m : ℕ) → PartOf (walk.refer h m) (outermost n x u) → (g : NodeHead) × PartOf (walk.refer g m) u × (h .span ≡ g .span)
 unfolding outermost PartOf
 outermost-refers n x walk.none h m q = absurd q
 outermost-refers n x (walk.part k g l r) h m (inl e) = absurd (not-both h m _ _ _ _ e)
@@ -106,26 +106,26 @@ outermost-refers n x (walk.part k g l r) h m (inr q) = (h, inr q, refl)
 outermost-refers n x (walk.refer g j) h m e =
     let a : h ≡ head (x .start) n (g .span) = cc in
     let b : m ≡ j = cc in
-    (g, ap (λ (i : ℕ). walk.refer g i) b, ap (λ (f : Head). f .span) a)
+    (g, ap (λ (i : ℕ). walk.refer g i) b, ap (λ (f : NodeHead). f .span) a)
 
-tree-refers : (ns : List Token) (n : ℕ) (x : Token) (o : Option Expr) (h : Head) (m : ℕ) → PartOf (walk.refer h m) (treeBy ns n x o) → (t : Token) × Same ns (partIf o) h m t
+tree-refers : (ns : List Token) (n : ℕ) (x : Token) (o : Option Expr) (h : NodeHead) (m : ℕ) → PartOf (walk.refer h m) (treeBy ns n x o) → (t : Token) × Same ns (partIf o) h m t
 unfolding treeBy PartOf
 tree-refers ns n x none h m (inl e) = absurd (not-both h m _ _ _ _ e)
 tree-refers ns n x none h m (inr (inl q)) = absurd q
 tree-refers ns n x none h m (inr (inr q)) = absurd q
 tree-refers ns n x (some e) h m q =
-    let g = outermost-refers n x (numbered ns (partOf e)) h m q in
+    let g = outermost-refers n x (treeOfPart ns (partOf e)) h m q in
     let t = numbered-refers ns (partOf e) (g .0) m (g .1) in
     (t .0, (t .1 .0, t .1 .1, g .2 ∙ t .1 .2))
 
-refers-numbered : (ns : List Token) (p : Part) (t : Token) → Refers p t → (h : Head) × PartOf (walk.refer h (find ns (t .text))) (numbered ns p)
-unfolding numbered PartOf Refers
+refers-numbered : (ns : List Token) (p : Part) (t : Token) → Refers p t → (h : NodeHead) × PartOf (walk.refer h (find ns (t .text))) (treeOfPart ns p)
+unfolding treeOfPart PartOf Refers
 refers-numbered ns part.none t q = absurd q
 refers-numbered ns (part.part k at s l r) t (inl q) = let x = refers-numbered ns l t q in (x .0, inr (inl (x .1)))
 refers-numbered ns (part.part k at s l r) t (inr q) = let x = refers-numbered ns r t q in (x .0, inr (inr (x .1)))
 refers-numbered ns (part.refer x) t q = (head (x .start) 0 (spanOf x), ap (λ (u : Token). walk.refer (head (x .start) 0 (spanOf x)) (find ns (u .text))) (sym q))
 
-refers-outermost : (n : ℕ) (x : Token) (u : Tree) (h : Head) (m : ℕ) → PartOf (walk.refer h m) u → (g : Head) × PartOf (walk.refer g m) (outermost n x u)
+refers-outermost : (n : ℕ) (x : Token) (u : Tree) (h : NodeHead) (m : ℕ) → PartOf (walk.refer h m) u → (g : NodeHead) × PartOf (walk.refer g m) (outermost n x u)
 unfolding outermost PartOf
 refers-outermost n x walk.none h m q = absurd q
 refers-outermost n x (walk.part k g l r) h m (inl e) = absurd (not-both h m _ _ _ _ e)
@@ -134,12 +134,12 @@ refers-outermost n x (walk.refer g j) h m e =
     let b : m ≡ j = cc in
     (head (x .start) n (g .span), ap (λ (i : ℕ). walk.refer (head (x .start) n (g .span)) i) b)
 
-refers-tree : (ns : List Token) (n : ℕ) (x : Token) (o : Option Expr) (t : Token) → Refers (partIf o) t → (h : Head) × PartOf (walk.refer h (find ns (t .text))) (treeBy ns n x o)
+refers-tree : (ns : List Token) (n : ℕ) (x : Token) (o : Option Expr) (t : Token) → Refers (partIf o) t → (h : NodeHead) × PartOf (walk.refer h (find ns (t .text))) (treeBy ns n x o)
 unfolding treeBy Refers
 refers-tree ns n x none t q = absurd q
 refers-tree ns n x (some e) t q =
     let g = refers-numbered ns (partOf e) t q in
-    refers-outermost n x (numbered ns (partOf e)) (g .0) (find ns (t .text)) (g .1)
+    refers-outermost n x (treeOfPart ns (partOf e)) (g .0) (find ns (t .text)) (g .1)
 
 -- ---- references of a name
 
@@ -149,7 +149,7 @@ tree-at ls ns n x e = rw e
 
 module _ (ls : List Line) where
   -- a reference in the tree of the name number n is one in the first expression of its text
-  pub reference-of : (n : ℕ) (x : Token) → recordNo (ns ls) n ≡ some x → (h : Head) (m : ℕ) → PartOf (walk.refer h m) (treeOf ls (ns ls) n)
+  pub reference-of : (n : ℕ) (x : Token) → recordNo (ns ls) n ≡ some x → (h : NodeHead) (m : ℕ) → PartOf (walk.refer h m) (treeOf ls (ns ls) n)
       → (t : Token) × HasReference ls (x .text) t × (find (ns ls) (t .text) ≡ m) × (h .span ≡ spanOf t)
   reference-of n x e h m q =
       let r = tree-refers (ns ls) n x (firstExpression ls (x .text)) h m (subst (λ (u : Tree). PartOf (walk.refer h m) u) (tree-at ls (ns ls) n x e) q) in
@@ -157,7 +157,7 @@ module _ (ls : List Line) where
 
   -- and the other way round
   pub of-reference : (n : ℕ) (x : Token) → recordNo (ns ls) n ≡ some x → (t : Token) → HasReference ls (x .text) t
-      → (h : Head) × PartOf (walk.refer h (find (ns ls) (t .text))) (treeOf ls (ns ls) n)
+      → (h : NodeHead) × PartOf (walk.refer h (find (ns ls) (t .text))) (treeOf ls (ns ls) n)
   of-reference n x e t q =
       let r = refers-tree (ns ls) n x (firstExpression ls (x .text)) t (q .1) in
       (r .0, subst (λ (u : Tree). PartOf (walk.refer (r .0) (find (ns ls) (t .text))) u) (sym (tree-at ls (ns ls) n x e)) (r .1))

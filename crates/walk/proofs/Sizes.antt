@@ -30,7 +30,7 @@ use Rattle.names.proofs.Laws.{same-false, Entering, refused, new, known, enteri
 use Rattle.names.proofs.OneMore.{names-snoc, first-snoc, first-none, errors-snoc, errors-none}
 use Rattle.walk.specs.Walk as walk
 use Rattle.walk.specs.Walk.{Tree, Node}
-use Rattle.walk.specs.Trees.{head, recordNo, numbered, outermost, treeBy, treeOf}
+use Rattle.walk.specs.Trees.{head, recordNo, treeOfPart, outermost, treeBy, treeOf}
 use Rattle.walk.specs.Nodes.{walked, nodesOf}
 use Rattle.walk.specs.Stands.{partsFor, sum, partsOf}
 use Rattle.walk.proofs.Count.{Weighs, nodes-weigh, one-each, sum-one, sum-append, total, total-none, total-more}
@@ -47,16 +47,16 @@ pub record Agrees (t : Tree → ℕ) (f : Part → ℕ) : Type 0 where
   pub used : (a n m : ℕ) (x : Token) → t (walk.refer (head a n (spanOf x)) m) ≡ f (part.refer x)
 
 module _ (t : Tree → ℕ) (f : Part → ℕ) (w : Agrees t f) (ns : List Token) where
-  numbered-weighs : (p : Part) → t (numbered ns p) ≡ f p
-  unfolding numbered
+  numbered-weighs : (p : Part) → t (treeOfPart ns p) ≡ f p
+  unfolding treeOfPart
   numbered-weighs part.none = w .absent
-  numbered-weighs (part.part k at s l r) = w .own k at at 0 s l r (numbered ns l) (numbered ns r) (numbered-weighs l) (numbered-weighs r)
+  numbered-weighs (part.part k at s l r) = w .own k at at 0 s l r (treeOfPart ns l) (treeOfPart ns r) (numbered-weighs l) (numbered-weighs r)
   numbered-weighs (part.refer x) = w .used _ 0 _ x
 
-  outermost-weighs : (n : ℕ) (x : Token) (p : Part) → t (outermost n x (numbered ns p)) ≡ f p
-  unfolding numbered outermost
+  outermost-weighs : (n : ℕ) (x : Token) (p : Part) → t (outermost n x (treeOfPart ns p)) ≡ f p
+  unfolding treeOfPart outermost
   outermost-weighs n x part.none = w .absent
-  outermost-weighs n x (part.part k at s l r) = w .own k at (x .start) n s l r (numbered ns l) (numbered ns r) (numbered-weighs l) (numbered-weighs r)
+  outermost-weighs n x (part.part k at s l r) = w .own k at (x .start) n s l r (treeOfPart ns l) (treeOfPart ns r) (numbered-weighs l) (numbered-weighs r)
   outermost-weighs n x (part.refer y) = w .used (x .start) n _ y
 
 -- ---- sums

@@ -9,7 +9,7 @@ use native.Mathlib.Omega.{arith}
 use lib.ListN.{length}
 use Rattle.records.specs.NodeKind as node
 use Rattle.grammar.specs.Places.{Each, numbered}
-use Rattle.walk.specs.Walk.{Head, Own, ownKind, Tree, none, part, refer, Node, fresh, finished, State, resolve, final}
+use Rattle.walk.specs.Walk.{NodeHead, Own, ownKind, Tree, none, part, refer, Node, fresh, finished, State, resolve, final}
 use Rattle.walk.specs.Trees.{recordNo}
 use Rattle.walk.specs.Stands.{PartOf, Points, StandsFor, Stands}
 use Rattle.walk.specs.Demand.{Later}
@@ -86,14 +86,14 @@ module _ (F : ℕ → Tree) (N : ℕ) where
           subst (λ (v : Tree). HasNode (s .nodes ++ (x ∷ [])) v) (sym e)
           (suc (length (s .nodes)), x, record-last (s .nodes) x, stands-more (s .nodes) (x ∷ []) x t st)
 
-      parts : (s : State) (k : Own) (h : Head) (l r : Tree) (x : Node) → StandsFor F N (s .nodes) x (part k h l r)
+      parts : (s : State) (k : Own) (h : NodeHead) (l r : Tree) (x : Node) → StandsFor F N (s .nodes) x (part k h l r)
           → ((u : Tree) → PartOf u l → HasNode (s .nodes) u) → ((u : Tree) → PartOf u r → HasNode (s .nodes) u)
           → (u : Tree) → (u ≡ part k h l r) ⊎ PartOf u l ⊎ PartOf u r → HasNode (s .nodes ++ (x ∷ [])) u
       parts s k h l r x st pl pr u (inl e) = last s x (part k h l r) u st e
       parts s k h l r x st pl pr u (inr (inl q)) = has-more (s .nodes) (x ∷ []) u (pl u q)
       parts s k h l r x st pl pr u (inr (inr q)) = has-more (s .nodes) (x ∷ []) u (pr u q)
 
-      alone : (s : State) (n : ℕ) (h : Head) (m : ℕ) (x : Node) → Legal N n → PartOf (refer h m) (F n) → x .head ≡ h
+      alone : (s : State) (n : ℕ) (h : NodeHead) (m : ℕ) (x : Node) → Legal N n → PartOf (refer h m) (F n) → x .head ≡ h
           → StandsFor F N (s .nodes) x (refer h m) → Made (Stands F N) Placed s x (refer h m)
       alone s n h m x ln p e st = (
         record { holder = n; legal = ln; tree = refer h m; inside = p; for = st },

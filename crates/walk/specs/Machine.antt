@@ -5,16 +5,16 @@ use mathlib.Core.Bool.{Bool, true, false}
 use mathlib.Core.Logic.{_⊎_}
 use mathlib.Core.List.{List, [], _∷_}
 use lib.ListN.{length}
-use Rattle.walk.specs.Walk.{Head, Own, ownKind, Tree, none, part, refer, Node, Status, fresh, begun, finished, State, Walked, mark, finish, resolve, walk, Legal, ready, visit}
+use Rattle.walk.specs.Walk.{NodeHead, Own, ownKind, Tree, none, part, refer, Node, Status, fresh, begun, finished, State, Walked, mark, finish, resolve, walk, Legal, ready, visit}
 
 -- What waits on the stack, innermost first.
 pub data Frame : Type 0 where
   -- the right child is walked; the left child is still to be walked
-  waitRight : (kind : Own) (h : Head) (left : Tree) → Frame
+  waitRight : (kind : Own) (h : NodeHead) (left : Tree) → Frame
   -- the left child is walked; the right child's node number is known
-  waitLeft : (kind : Own) (h : Head) (right : ℕ) → Frame
+  waitLeft : (kind : Own) (h : NodeHead) (right : ℕ) → Frame
   -- a reference whose name is walked
-  waitName : (h : Head) (n : ℕ) → Frame
+  waitName : (h : NodeHead) (n : ℕ) → Frame
 
 -- going down into a tree, or coming up with what was walked last
 pub data Config : Type 0 where
@@ -22,7 +22,7 @@ pub data Config : Type 0 where
   up : (w : Walked) (stack : List Frame) → Config
 
 -- a part's node
-abbrev pub nodeOf : Own → Head → ℕ → ℕ → Node
+abbrev pub nodeOf : Own → NodeHead → ℕ → ℕ → Node
 nodeOf k h a b = record { kind = ownKind k; head = h; left = a; right = b }
 
 -- every part of a tree becomes one node
@@ -82,7 +82,7 @@ module _ (F : ℕ → Tree) (N : ℕ) where
   meaning (up w ks) = resume ks w
 
   -- a reference: begin its name if it is ready, else make its node
-  unfoldable pub atReference : Bool → Head → ℕ → State → List Frame → Config
+  unfoldable pub atReference : Bool → NodeHead → ℕ → State → List Frame → Config
   atReference true h n s ks = down (F n) (mark n begun s) (waitName h n ∷ ks)
   atReference false h n s ks = up (finish (resolve h (s .status n)) s) ks
 

@@ -12,7 +12,7 @@ use Rattle.grammar.specs.Tree.{Expr, Line}
 use Rattle.grammar.specs.Part.{partOf, weight}
 use Rattle.grammar.specs.Places.{Each, numbered}
 use Rattle.names.specs.Names.{namesOf, firstExpression}
-use Rattle.walk.specs.Walk.{Head, Own, ownKind, Tree, none, part, refer, Node, Legal}
+use Rattle.walk.specs.Walk.{NodeHead, Own, ownKind, Tree, none, part, refer, Node, Legal}
 use Rattle.walk.specs.Trees.{treeOf, recordNo}
 use Rattle.walk.specs.Nodes.{nodesOf}
 
@@ -23,7 +23,7 @@ PartOf t (part k h l r) = (t ≡ part k h l r) ⊎ PartOf t l ⊎ PartOf t r
 PartOf t (refer h m) = t ≡ refer h m
 
 -- the node number c of xs has the head h
-abbrev pub Shows : List Node → (c : ℕ) → Head → Type 0
+abbrev pub Shows : List Node → (c : ℕ) → NodeHead → Type 0
 Shows xs c h = (x : Node) × (recordNo xs c ≡ some x) × (x .head ≡ h)
 
 -- c is the number of the node that stands for the tree t; 0 for no tree

@@ -11,17 +11,17 @@ use Rattle.grammar.specs.Part.{Part, partOf, spanOf}
 use Rattle.symbols.specs.Symbols.{find}
 use Rattle.names.specs.Names.{firstExpression}
 use Rattle.walk.specs.Walk as walk
-use Rattle.walk.specs.Walk.{Head, Tree, noexpr, of}
+use Rattle.walk.specs.Walk.{NodeHead, Tree, noexpr, of}
 
 -- place, name number, span
-abbrev pub head : (at name : ℕ) → Span → Head
+abbrev pub head : (at name : ℕ) → Span → NodeHead
 head at n s = record { start = at; name = n; span = s }
 
 -- a part, each reference with the number of its name; the name number is 0 but for the outermost node of a name
-unfoldable pub numbered : (names : List Token) → Part → Tree
-numbered ns part.none = walk.none
-numbered ns (part.part k at s l r) = walk.part (of k) (head at 0 s) (numbered ns l) (numbered ns r)
-numbered ns (part.refer x) = walk.refer (head (x .start) 0 (spanOf x)) (find ns (x .text))
+unfoldable pub treeOfPart : (names : List Token) → Part → Tree
+treeOfPart ns part.none = walk.none
+treeOfPart ns (part.part k at s l r) = walk.part (of k) (head at 0 s) (treeOfPart ns l) (treeOfPart ns r)
+treeOfPart ns (part.refer x) = walk.refer (head (x .start) 0 (spanOf x)) (find ns (x .text))
 
 -- the outermost node of the name n has the name's place and number
 unfoldable pub outermost : (n : ℕ) → (name : Token) → Tree → Tree
@@ -32,7 +32,7 @@ outermost n x (walk.refer h m) = walk.refer (head (x .start) n (h .span)) m
 -- with no expression a name becomes an incomplete node, whose span is the name
 unfoldable pub treeBy : (names : List Token) → (n : ℕ) → (name : Token) → Option Expr → Tree
 treeBy ns n x none = walk.part noexpr (head (x .start) n (spanOf x)) walk.none walk.none
-treeBy ns n x (some e) = outermost n x (numbered ns (partOf e))
+treeBy ns n x (some e) = outermost n x (treeOfPart ns (partOf e))
 
 -- the record number n; 0 and a number past the last are none
 unfoldable pub recordNo : {A : Type 0} → List A → (n : ℕ) → Option A

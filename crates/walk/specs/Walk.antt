@@ -12,7 +12,7 @@ use Rattle.records.specs.declared.Span.{Span}
 
 -- what a node takes over from its part: its place, the name number that it carries (0 but for the outermost node of a name),
 -- its span
-pub record Head : Type 0 where
+pub record NodeHead : Type 0 where
   pub start : ℕ
   pub name : ℕ
   pub span : Span
@@ -30,12 +30,12 @@ ownKind (of k) = node.part k
 -- that name has no legal line.
 pub data Tree : Type 0 where
   none : Tree
-  part : Own → Head → (left right : Tree) → Tree
-  refer : Head → (n : ℕ) → Tree
+  part : Own → NodeHead → (left right : Tree) → Tree
+  refer : NodeHead → (n : ℕ) → Tree
 
 pub record Node : Type 0 where
   pub kind : node.Kind
-  pub head : Head
+  pub head : NodeHead
   pub left : ℕ
   pub right : ℕ
 
@@ -67,7 +67,7 @@ finish x s = record { state = record { nodes = s .nodes ++ (x ∷ []); status = 
 
 -- A reference becomes a reference node if that name is finished, else a missing node: a name that is fresh then has no legal
 -- line, and one that is begun is used inside itself. A reference's node is its left child.
-abbrev pub resolve : Head → Status → Node
+abbrev pub resolve : NodeHead → Status → Node
 resolve h fresh = record { kind = node.missing; head = h; left = 0; right = 0 }
 resolve h begun = record { kind = node.missing; head = h; left = 0; right = 0 }
 resolve h (finished i) = record { kind = node.ref; head = h; left = i; right = 0 }

@@ -7,10 +7,10 @@ ghost use Rattle.lex.specs.Tokens.{lexAll, leaves};
 ghost use Rattle.records.specs.Limits.{limits};
 ghost use Rattle.tables.specs.Tables.{wordAt};
 ghost use Rattle.text.specs.Check.{checkText, rowOfText};
-ghost use Rattle.text.specs.Place.{placeOf};
+ghost use Rattle.text.specs.Place.{positionOf};
 ghost use Rattle.access.specs.Access.{partIn, nameSpan, nextRoot};
 ghost use Rattle.listing.specs.Listing.{listing, listAnswer, listedIn};
-ghost use Rattle.reader.specs.Reading.{eight, readInto, after, answerOf};
+ghost use Rattle.reader.specs.Reading.{eight, readInto, readTables, answerOf};
 ghost use lib.ListN.{length};
 ghost use Rattle.answers.specs.Rows.{lexedRow, parsedRow, readRow, partRow, listedRow};
 use answers::LexedRow;
@@ -45,7 +45,7 @@ pub extern "C" fn zaghdurem_check_text(source: &[u8]) -> Refusal
 // The line and column of an offset, for any bytes.
 #[no_mangle]
 pub extern "C" fn zaghdurem_offset_to_position(source: &[u8], offset: usize) -> Position
-    ensures { λ r. ⌜ r ≡ placeOf (now (source .entry)) offset ⌝ }
+    ensures { λ r. ⌜ r ≡ positionOf (now (source .entry)) offset ⌝ }
 {
     text::offset_to_position(source, offset)
 }
@@ -100,7 +100,7 @@ pub extern "C" fn zaghdurem_read(
     work: &mut [u32],
 ) -> ReadRow
     ensures answer { λ r. ⌜ r ≡ readRow (answerOf (readInto (now (source .entry)) (now (jets .entry)) (eight (now (tokens .entry)) (now (lines .entry)) (now (exprs .entry)) (now (types .entry)) (now (names .entry)) (now (nodes .entry)) (now (errors .entry)) (now (work .entry))))) ⌝ }
-    ensures tables { λ _. ⌜ eight (now (tokens .exit)) (now (lines .exit)) (now (exprs .exit)) (now (types .exit)) (now (names .exit)) (now (nodes .exit)) (now (errors .exit)) (now (work .exit)) ≡ after (readInto (now (source .entry)) (now (jets .entry)) (eight (now (tokens .entry)) (now (lines .entry)) (now (exprs .entry)) (now (types .entry)) (now (names .entry)) (now (nodes .entry)) (now (errors .entry)) (now (work .entry)))) (eight (now (tokens .entry)) (now (lines .entry)) (now (exprs .entry)) (now (types .entry)) (now (names .entry)) (now (nodes .entry)) (now (errors .entry)) (now (work .entry))) ⌝ }
+    ensures tables { λ _. ⌜ eight (now (tokens .exit)) (now (lines .exit)) (now (exprs .exit)) (now (types .exit)) (now (names .exit)) (now (nodes .exit)) (now (errors .exit)) (now (work .exit)) ≡ readTables (readInto (now (source .entry)) (now (jets .entry)) (eight (now (tokens .entry)) (now (lines .entry)) (now (exprs .entry)) (now (types .entry)) (now (names .entry)) (now (nodes .entry)) (now (errors .entry)) (now (work .entry)))) (eight (now (tokens .entry)) (now (lines .entry)) (now (exprs .entry)) (now (types .entry)) (now (names .entry)) (now (nodes .entry)) (now (errors .entry)) (now (work .entry))) ⌝ }
 {
     let answer = reader::read(
         source,
@@ -180,7 +180,7 @@ pub extern "C" fn zaghdurem_list(
 ) -> ListedRow
     ensures answer { λ r. ⌜ r ≡ listedRow (listAnswer (listing (now (source .entry)) (readInto (now (source .entry)) (now (jets .entry)) (eight (now (tokens .entry)) (now (lines .entry)) (now (exprs .entry)) (now (types .entry)) (now (names .entry)) (now (nodes .entry)) (now (errors .entry)) (now (work .entry))))) (length (now (out .entry)))) ⌝ }
     ensures output { λ _. ⌜ now (out .exit) ≡ listedIn (listing (now (source .entry)) (readInto (now (source .entry)) (now (jets .entry)) (eight (now (tokens .entry)) (now (lines .entry)) (now (exprs .entry)) (now (types .entry)) (now (names .entry)) (now (nodes .entry)) (now (errors .entry)) (now (work .entry))))) (now (out .entry)) ⌝ }
-    ensures tables { λ _. ⌜ eight (now (tokens .exit)) (now (lines .exit)) (now (exprs .exit)) (now (types .exit)) (now (names .exit)) (now (nodes .exit)) (now (errors .exit)) (now (work .exit)) ≡ after (readInto (now (source .entry)) (now (jets .entry)) (eight (now (tokens .entry)) (now (lines .entry)) (now (exprs .entry)) (now (types .entry)) (now (names .entry)) (now (nodes .entry)) (now (errors .entry)) (now (work .entry)))) (eight (now (tokens .entry)) (now (lines .entry)) (now (exprs .entry)) (now (types .entry)) (now (names .entry)) (now (nodes .entry)) (now (errors .entry)) (now (work .entry))) ⌝ }
+    ensures tables { λ _. ⌜ eight (now (tokens .exit)) (now (lines .exit)) (now (exprs .exit)) (now (types .exit)) (now (names .exit)) (now (nodes .exit)) (now (errors .exit)) (now (work .exit)) ≡ readTables (readInto (now (source .entry)) (now (jets .entry)) (eight (now (tokens .entry)) (now (lines .entry)) (now (exprs .entry)) (now (types .entry)) (now (names .entry)) (now (nodes .entry)) (now (errors .entry)) (now (work .entry)))) (eight (now (tokens .entry)) (now (lines .entry)) (now (exprs .entry)) (now (types .entry)) (now (names .entry)) (now (nodes .entry)) (now (errors .entry)) (now (work .entry))) ⌝ }
 {
     let answer = listing::list(
         source,

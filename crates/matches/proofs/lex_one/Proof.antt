@@ -4,38 +4,38 @@ use borrow.Author.Needs.{needs}
 use Rattle.records.specs.TokenKind as token
 use Rattle.matches.specs.declared.Lexed.the-variants.{Skip}
 use Rattle.classes.specs.Classes.{starts}
-use Rattle.matches.specs.Longest.{ofKind, lexAt, best, matchLen}
+use Rattle.matches.specs.Longest.{lexedAs, lexAt, best, matchLen}
 use Rattle.matches.proofs.Arms.{lex-byte}
 use Rattle.matches.proofs.lex_one.Statement.{statement}
 use Rattle.matches.proofs.lex_one.Tie as tie
 
 returns : tie.Need-returns
 unfolding lexAt best matchLen starts
-returns c = sym (lex-byte (c .before .before .before .args .s .now) (c .before .before .before .pre) 40 (ofKind token.lparen 1) (λ t. refl) (c .match .keys1))
+returns c = sym (lex-byte (c .before .before .before .args .s .now) (c .before .before .before .pre) 40 (lexedAs token.lparen 1) (λ t. refl) (c .match .keys1))
 
 returns-2 : tie.Need-returns-2
 unfolding lexAt best matchLen starts
-returns-2 c = sym (lex-byte (c .before .before .before .args .s .now) (c .before .before .before .pre) 41 (ofKind token.rparen 1) (λ t. refl) (c .match .keys2))
+returns-2 c = sym (lex-byte (c .before .before .before .args .s .now) (c .before .before .before .pre) 41 (lexedAs token.rparen 1) (λ t. refl) (c .match .keys2))
 
 returns-3 : tie.Need-returns-3
 unfolding lexAt best matchLen starts
-returns-3 c = sym (lex-byte (c .before .before .before .args .s .now) (c .before .before .before .pre) 43 (ofKind token.plus 1) (λ t. refl) (c .match .keys3))
+returns-3 c = sym (lex-byte (c .before .before .before .args .s .now) (c .before .before .before .pre) 43 (lexedAs token.plus 1) (λ t. refl) (c .match .keys3))
 
 returns-4 : tie.Need-returns-4
 unfolding lexAt best matchLen starts
-returns-4 c = sym (lex-byte (c .before .before .before .args .s .now) (c .before .before .before .pre) 42 (ofKind token.star 1) (λ t. refl) (c .match .keys4))
+returns-4 c = sym (lex-byte (c .before .before .before .args .s .now) (c .before .before .before .pre) 42 (lexedAs token.star 1) (λ t. refl) (c .match .keys4))
 
 returns-5 : tie.Need-returns-5
 unfolding lexAt best matchLen starts
-returns-5 c = sym (lex-byte (c .before .before .before .args .s .now) (c .before .before .before .pre) 125 (ofKind token.rbrace 1) (λ t. refl) (c .match .keys5))
+returns-5 c = sym (lex-byte (c .before .before .before .args .s .now) (c .before .before .before .pre) 125 (lexedAs token.rbrace 1) (λ t. refl) (c .match .keys5))
 
 returns-6 : tie.Need-returns-6
 unfolding lexAt best matchLen starts
-returns-6 c = sym (lex-byte (c .before .before .before .args .s .now) (c .before .before .before .pre) 63 (ofKind token.question 1) (λ t. refl) (c .match .keys6))
+returns-6 c = sym (lex-byte (c .before .before .before .args .s .now) (c .before .before .before .pre) 63 (lexedAs token.question 1) (λ t. refl) (c .match .keys6))
 
 returns-7 : tie.Need-returns-7
 unfolding lexAt best matchLen starts
-returns-7 c = sym (lex-byte (c .before .before .before .args .s .now) (c .before .before .before .pre) 49 (ofKind token.one 1) (λ t. refl) (c .match .keys7))
+returns-7 c = sym (lex-byte (c .before .before .before .args .s .now) (c .before .before .before .pre) 49 (lexedAs token.one 1) (λ t. refl) (c .match .keys7))
 
 returns-8 : tie.Need-returns-8
 unfolding lexAt best matchLen starts

@@ -1,11 +1,11 @@
 -- `reader::is_short` meets its contract.
-use Rattle.reader.specs.Reading.{shortBy}
+use Rattle.reader.specs.Reading.{shortToReadBy}
 use mathlib.Core.Path.{refl}
 use Rattle.reader.proofs.is_short.Statement.{statement}
 use Rattle.reader.proofs.is_short.Tie as tie
 
 returns : tie.Need-returns
-unfolding shortBy
+unfolding shortToReadBy
 returns c = refl
 
 pub is-short-spec : {M : Type 1} → statement M

@@ -5,7 +5,7 @@ use mathlib.Core.List.{foldl}
 use native.Mathlib.Omega.{arith}
 use lib.ListN.{length, take, drop}
 use borrow.Author.Needs.{needs}
-use Rattle.text.specs.Place.{pass, placeOf}
+use Rattle.text.specs.Place.{pass, positionOf}
 use Rattle.text.proofs.Laws.{Near, pass-near, place-start, place-more, place-there, place-past}
 use Rattle.text.proofs.offset_to_position.Statement.{statement}
 use Rattle.text.proofs.offset_to_position.Tie as tie
@@ -13,7 +13,7 @@ use Rattle.text.proofs.offset_to_position.Tie as tie
 abbrev Inv-loop : tie.InvT-loop
 Inv-loop source offset p₀ i₀ p i =
     (i ≤ length source) × (i ≤ offset) × Near p i
-    × (placeOf source offset ≡ foldl pass p (drop i (take offset source)))
+    × (positionOf source offset ≡ foldl pass p (drop i (take offset source)))
 
 abbrev μ-loop : tie.MeasureT-loop
 μ-loop source offset p₀ i₀ p i = length source - i

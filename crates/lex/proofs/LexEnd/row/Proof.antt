@@ -1,7 +1,7 @@
 -- `LexEnd::row` meets its contract: in each arm the answer is known.
 use mathlib.Core.Path.{sym, ap, _∙_}
 use borrow.Author.Needs.{needs}
-use Rattle.lex.specs.Tokens.{rowOfEnd}
+use Rattle.lex.specs.Tokens.{rowOfLexEnd}
 use Rattle.lex.proofs.LexEnd.row.Statement.{statement}
 use Rattle.lex.proofs.LexEnd.row.Tie as tie
 
@@ -15,6 +15,6 @@ row-spec =
     (λ c κs. search needs)
     (λ c. search needs)
     (λ c κs. search needs)
-    (λ c. c .row .ensures ∙ sym (ap rowOfEnd (c .before .enum-told .given .1)))
-    (λ c. c .row2 .ensures ∙ sym (ap rowOfEnd (c .before .before .self .given .1)))
-    (λ c. c .row3 .ensures ∙ sym (ap rowOfEnd (c .before .before .self2 .given .1))))
+    (λ c. c .row .ensures ∙ sym (ap rowOfLexEnd (c .before .enum-told .given .1)))
+    (λ c. c .row2 .ensures ∙ sym (ap rowOfLexEnd (c .before .before .self .given .1)))
+    (λ c. c .row3 .ensures ∙ sym (ap rowOfLexEnd (c .before .before .self2 .given .1))))
