@@ -303,40 +303,6 @@ fn refer(
     coming_up(NodeNo(number), g.waiting, number)
 }
 
-// A turn that goes down: passes an absent child, turns to a reference, or lets a part wait for its right child.
-fn go_down(
-    source: &[u8],
-    exprs: &[u32],
-    names: &mut [u32],
-    count: u32,
-    nodes: &mut [u32],
-    work: &mut [u32],
-    g: Walker,
-) -> Walker
-    ensures { λ q. ⌜ (g .up ≡ false
-        → Turns (now (source .entry)) (now (exprs .entry)) count g (now (names .entry)) (now (nodes .entry)) (now (work .entry)) q (now (names .exit)) (now (nodes .exit)) (now (work .exit))) ⌝ }
-{
-    let expr = g.expr;
-    let name = g.name;
-    if (expr.0 == 0) & (name.0 == 0) {
-        return coming_up(NodeNo(0), g.waiting, g.made);
-    }
-    let kind = tables::word(exprs, ExprRecord::WORDS, expr.0, ExprRecord::KIND);
-    if kind == NodeKind::REFERENCE {
-        return refer(source, exprs, names, count, nodes, work, g);
-    }
-    let number = cursor::next_number(g.waiting);
-    let item = StackItem {
-        expr,
-        name,
-        waits: StackItem::FOR_RIGHT,
-        right: NodeNo(0),
-    };
-    push(work, WorkNo(number), item);
-    let right = tables::word(exprs, ExprRecord::WORDS, expr.0, ExprRecord::RIGHT);
-    going_down(ExprNo(right), NameNo(0), number, g.made)
-}
-
 // A part whose right child is made waits for its left child.
 fn turn_left(exprs: &[u32], work: &mut [u32], item: StackItem, g: Walker) -> Walker
     ensures walk { λ q. ⌜ q ≡ leftWalker (now (exprs .entry)) item g ⌝ }
@@ -402,7 +368,8 @@ fn is_running(up: bool, waiting: u32) -> bool
     !up | (waiting != 0)
 }
 
-// One turn.
+// One turn: comes up to an item; or goes down, where it passes an absent child, turns to a reference, or lets a part wait for its
+// right child.
 fn turn(
     source: &[u8],
     exprs: &[u32],
@@ -418,7 +385,25 @@ fn turn(
     if g.up {
         return come_up(source, exprs, names, count, nodes, work, g);
     }
-    go_down(source, exprs, names, count, nodes, work, g)
+    let expr = g.expr;
+    let name = g.name;
+    if (expr.0 == 0) & (name.0 == 0) {
+        return coming_up(NodeNo(0), g.waiting, g.made);
+    }
+    let kind = tables::word(exprs, ExprRecord::WORDS, expr.0, ExprRecord::KIND);
+    if kind == NodeKind::REFERENCE {
+        return refer(source, exprs, names, count, nodes, work, g);
+    }
+    let number = cursor::next_number(g.waiting);
+    let item = StackItem {
+        expr,
+        name,
+        waits: StackItem::FOR_RIGHT,
+        right: NodeNo(0),
+    };
+    push(work, WorkNo(number), item);
+    let right = tables::word(exprs, ExprRecord::WORDS, expr.0, ExprRecord::RIGHT);
+    going_down(ExprNo(right), NameNo(0), number, g.made)
 }
 
 // All the turns.
