@@ -80,26 +80,18 @@ pub fn parse_tokens(
     ensures types { λ _. ⌜ now (types .exit) ≡ tableOf typeWidth (typeRowsOf (linesIn (linesOf (checksOf (now (jets .entry))) (tokensLeft (now (source .entry)) (now (tokens .entry)) count 0)))) (now (types .entry)) ⌝ }
 {
     clear_parsed(lines, exprs, types);
-    let mut token: u32 = 0;
-    let mut expr: u32 = 0;
-    let mut ty: u32 = 0;
+    let mut c = Cursor {
+        token: TokenNo(0),
+        expr: ExprNo(0),
+        ty: TypeNo(0),
+    };
     let mut made: u32 = 0;
-    while token < count {
-        let c = Cursor {
-            token: TokenNo(token),
-            expr: ExprNo(expr),
-            ty: TypeNo(ty),
-        };
+    while c.token.0 < count {
         match lines::parse_line(source, jets, tokens, count, exprs, types, c) {
             LineAnswer::Read(line, d) => {
                 made = cursor::next_number(made);
                 put_line(lines, made, line);
-                let passed = d.token;
-                let last_expr = d.expr;
-                let last_type = d.ty;
-                token = passed.0;
-                expr = last_expr.0;
-                ty = last_type.0;
+                c = d;
             }
             LineAnswer::Refused(x) => {
                 clear_parsed(lines, exprs, types);
@@ -110,8 +102,8 @@ pub fn parse_tokens(
     ParseEnd::Lines(Counts {
         tokens: count,
         lines: made,
-        exprs: expr,
-        types: ty,
+        exprs: c.expr.0,
+        types: c.ty.0,
     })
 }
 
