@@ -108,17 +108,17 @@ module _ (s jets t : List ℕ) (n : ℕ) (c : Cursor) where
       abbrev There : TwoParts → Type 0
       There q = HeadReads s t n c (head checks ts) (TwoHead q at d)
 
-      pub expr-binary : (k : NodeKind) (p : ExprAnswer) (l : ExprNo) (f : Cursor) (p2 : ExprAnswer) (g : Complete) (r : ExprAnswer) (old mid end new : List ℕ) → h ≡ BinaryParts k → (Ready n d → ExprReads s t n d (E (tokensLeft s t n (d .token .0))) p old mid) → p ≡ Read l f
-          → (Ready n f → ExprReads s t n f (E (tokensLeft s t n (f .token .0))) p2 mid end) → g ≡ binaryBy k l p2 → (r ≡ completed g) × (new ≡ completedTable at g end) → Ready n c → There h → ExprReads s t n c begun r old new
+      pub expr-binary : (k : NodeKind) (p : ExprAnswer) (l : ExprNo) (f : Cursor) (p2 : ExprAnswer) (g : Complete) (old mid end : List ℕ) → h ≡ BinaryParts k → (Ready n d → ExprReads s t n d (E (tokensLeft s t n (d .token .0))) p old mid) → p ≡ Read l f
+          → (Ready n f → ExprReads s t n f (E (tokensLeft s t n (f .token .0))) p2 mid end) → g ≡ binaryBy k l p2 → Ready n c → There h → ExprReads s t n c begun (completed g) old (completedTable at g end)
       unfolding HeadReads exprBy goOn
-      expr-binary k p l f p2 g r old mid end new e i j m is a ready w =
+      expr-binary k p l f p2 g old mid end e i j m is ready w =
           let x = subst There e w in
           let y = expr-read s t n d old mid (E (x .1)) (next-expr ready (x .4) old mid E p i) j in
           let z = next-expr (reached-ready s t n ready (x .4)) (y .4 .to) mid end E p2 m in
           let same = is ∙ ap (λ (q : ExprNo). binaryBy k q p2) (y .3) in
-          along (binary (x .0) (at .0)) (x .1) r old new (x .2)
-          (subst (λ (P : Parsed Expr). ExprReads s t n c (goOn P (λ l ts. goOn (E ts) (λ r. got (tree.binary (x .0) (at .0) l r)))) r old new) (sym (y .2))
-          (binary-reads s t n c ready (x .4) (passes-token (binary (x .0) (at .0)) d (x .1) ready (x .2) (x .4)) at f (y .1) old mid (x .0) k (y .0) (E (y .1)) p2 r end new (x .3) (y .4) z (answer-as same (a .0)) (table-as at end same (a .1))))
+          along (binary (x .0) (at .0)) (x .1) (completed g) old (completedTable at g end) (x .2)
+          (subst (λ (P : Parsed Expr). ExprReads s t n c (goOn P (λ l ts. goOn (E ts) (λ r. got (tree.binary (x .0) (at .0) l r)))) (completed g) old (completedTable at g end)) (sym (y .2))
+          (binary-reads s t n c ready (x .4) (passes-token (binary (x .0) (at .0)) d (x .1) ready (x .2) (x .4)) at f (y .1) old mid (x .0) k (y .0) (E (y .1)) p2 (completed g) end (completedTable at g end) (x .3) (y .4) z (ap completed same) (ap (λ (q : Complete). completedTable at q end) same)))
 
       pub binary-refused : (k : NodeKind) (p : ExprAnswer) (x : ParseRefusal) (old mid : List ℕ) → h ≡ BinaryParts k → (Ready n d → ExprReads s t n d (E (tokensLeft s t n (d .token .0))) p old mid) → p ≡ Refused x → Ready n c → There h → ExprReads s t n c begun (Refused x) old mid
       unfolding HeadReads ExprReads exprBy goOn
@@ -128,17 +128,17 @@ module _ (s jets t : List ℕ) (n : ℕ) (c : Cursor) where
           along (binary (x .0) (at .0)) (x .1) (Refused v) old mid (x .2)
           (subst (λ (P : Parsed Expr). ExprReads s t n c (goOn P (λ l ts. goOn (E ts) (λ r. got (tree.binary (x .0) (at .0) l r)))) (Refused v) old mid) (sym (y .is)) (ap Refused (y .at), y .stays))
 
-      pub expr-left : (p : ExprAnswer) (l : ExprNo) (f : Cursor) (p2 : CmrAnswer) (g : Complete) (r : ExprAnswer) (old mid end new : List ℕ) → h ≡ LeftParts → (Ready n d → ExprReads s t n d (E (tokensLeft s t n (d .token .0))) p old mid) → p ≡ Read l f
-          → (Ready n f → CmrReads s t n f (cmr checks E (tokensLeft s t n (f .token .0))) p2 mid end) → g ≡ assertLBy l p2 → (r ≡ completed g) × (new ≡ completedTable at g end) → Ready n c → There h → ExprReads s t n c begun r old new
+      pub expr-left : (p : ExprAnswer) (l : ExprNo) (f : Cursor) (p2 : CmrAnswer) (g : Complete) (old mid end : List ℕ) → h ≡ LeftParts → (Ready n d → ExprReads s t n d (E (tokensLeft s t n (d .token .0))) p old mid) → p ≡ Read l f
+          → (Ready n f → CmrReads s t n f (cmr checks E (tokensLeft s t n (f .token .0))) p2 mid end) → g ≡ assertLBy l p2 → Ready n c → There h → ExprReads s t n c begun (completed g) old (completedTable at g end)
       unfolding HeadReads exprBy goOn
-      expr-left p l f p2 g r old mid end new e i j m is a ready w =
+      expr-left p l f p2 g old mid end e i j m is ready w =
           let x = subst There e w in
           let y = expr-read s t n d old mid (E (x .0)) (next-expr ready (x .2) old mid E p i) j in
           let z = next-cmr (reached-ready s t n ready (x .2)) (y .4 .to) mid end (cmr checks E) p2 m in
           let same = is ∙ ap (λ (q : ExprNo). assertLBy q p2) (y .3) in
-          along (assertl (at .0)) (x .0) r old new (x .1)
-          (subst (λ (P : Parsed Expr). ExprReads s t n c (goOn P (λ e ts. goOn (cmr checks E ts) (λ k. got (tree.assertl (at .0) e k)))) r old new) (sym (y .2))
-          (left-reads s t n c ready (x .2) (passes-token (assertl (at .0)) d (x .0) ready (x .1) (x .2)) at f (y .1) old mid (y .0) (cmr checks E (y .1)) p2 r end new (y .4) z (answer-as same (a .0)) (table-as at end same (a .1))))
+          along (assertl (at .0)) (x .0) (completed g) old (completedTable at g end) (x .1)
+          (subst (λ (P : Parsed Expr). ExprReads s t n c (goOn P (λ e ts. goOn (cmr checks E ts) (λ k. got (tree.assertl (at .0) e k)))) (completed g) old (completedTable at g end)) (sym (y .2))
+          (left-reads s t n c ready (x .2) (passes-token (assertl (at .0)) d (x .0) ready (x .1) (x .2)) at f (y .1) old mid (y .0) (cmr checks E (y .1)) p2 (completed g) end (completedTable at g end) (y .4) z (ap completed same) (ap (λ (q : Complete). completedTable at q end) same)))
 
       pub left-refused : (p : ExprAnswer) (x : ParseRefusal) (old mid : List ℕ) → h ≡ LeftParts → (Ready n d → ExprReads s t n d (E (tokensLeft s t n (d .token .0))) p old mid) → p ≡ Refused x → Ready n c → There h → ExprReads s t n c begun (Refused x) old mid
       unfolding HeadReads ExprReads exprBy goOn
@@ -148,17 +148,17 @@ module _ (s jets t : List ℕ) (n : ℕ) (c : Cursor) where
           along (assertl (at .0)) (x .0) (Refused v) old mid (x .1)
           (subst (λ (P : Parsed Expr). ExprReads s t n c (goOn P (λ e ts. goOn (cmr checks E ts) (λ k. got (tree.assertl (at .0) e k)))) (Refused v) old mid) (sym (y .is)) (ap Refused (y .at), y .stays))
 
-      pub expr-right : (p : CmrAnswer) (k : Cmr) (f : Cursor) (p2 : ExprAnswer) (g : Complete) (r : ExprAnswer) (old mid end new : List ℕ) → h ≡ RightParts → (Ready n d → CmrReads s t n d (cmr checks E (tokensLeft s t n (d .token .0))) p old mid) → p ≡ ReadCmr k f
-          → (Ready n f → ExprReads s t n f (E (tokensLeft s t n (f .token .0))) p2 mid end) → g ≡ assertRBy k p2 → (r ≡ completed g) × (new ≡ completedTable at g end) → Ready n c → There h → ExprReads s t n c begun r old new
+      pub expr-right : (p : CmrAnswer) (k : Cmr) (f : Cursor) (p2 : ExprAnswer) (g : Complete) (old mid end : List ℕ) → h ≡ RightParts → (Ready n d → CmrReads s t n d (cmr checks E (tokensLeft s t n (d .token .0))) p old mid) → p ≡ ReadCmr k f
+          → (Ready n f → ExprReads s t n f (E (tokensLeft s t n (f .token .0))) p2 mid end) → g ≡ assertRBy k p2 → Ready n c → There h → ExprReads s t n c begun (completed g) old (completedTable at g end)
       unfolding HeadReads exprBy goOn
-      expr-right p k f p2 g r old mid end new e i j m is a ready w =
+      expr-right p k f p2 g old mid end e i j m is ready w =
           let x = subst There e w in
           let y = cmr-read s t n d old mid (cmr checks E (x .0)) (next-cmr ready (x .2) old mid (cmr checks E) p i) j in
           let z = next-expr (reached-ready s t n ready (x .2)) (y .4 .to) mid end E p2 m in
           let same = is ∙ ap (λ (q : Cmr). assertRBy q p2) (y .3) in
-          along (assertr (at .0)) (x .0) r old new (x .1)
-          (subst (λ (P : Parsed tree.Cmr). ExprReads s t n c (goOn P (λ k ts. goOn (E ts) (λ e. got (tree.assertr (at .0) k e)))) r old new) (sym (y .2))
-          (right-reads s t n c ready (x .2) (passes-token (assertr (at .0)) d (x .0) ready (x .1) (x .2)) at f (y .1) old mid (y .0) (E (y .1)) p2 r end new (y .4) z (answer-as same (a .0)) (table-as at end same (a .1))))
+          along (assertr (at .0)) (x .0) (completed g) old (completedTable at g end) (x .1)
+          (subst (λ (P : Parsed tree.Cmr). ExprReads s t n c (goOn P (λ k ts. goOn (E ts) (λ e. got (tree.assertr (at .0) k e)))) (completed g) old (completedTable at g end)) (sym (y .2))
+          (right-reads s t n c ready (x .2) (passes-token (assertr (at .0)) d (x .0) ready (x .1) (x .2)) at f (y .1) old mid (y .0) (E (y .1)) p2 (completed g) end (completedTable at g end) (y .4) z (ap completed same) (ap (λ (q : Complete). completedTable at q end) same)))
 
       pub right-refused : (p : CmrAnswer) (x : ParseRefusal) (old mid : List ℕ) → h ≡ RightParts → (Ready n d → CmrReads s t n d (cmr checks E (tokensLeft s t n (d .token .0))) p old mid) → p ≡ NoCmr x → Ready n c → There h → ExprReads s t n c begun (Refused x) old mid
       unfolding HeadReads ExprReads exprBy goOn
@@ -209,9 +209,13 @@ module _ (s jets t : List ℕ) (n : ℕ) (c : Cursor) where
         up r old new (along (depth - 1) (unary (x .0) (at .0)) (x .1) r old new (x .2)
         (unary-reads s t n c ready (x .4) (passes-token (unary (x .0) (at .0)) d (x .1) ready (x .2) (x .4)) at (x .0) k (D (x .1)) p r old mid new (x .3) (next-expr ready (x .4) old mid D p i) (answer-as f (a .0)) (table-as at mid f (a .1))))
 
-    pub expr-two : (h : ExprHead) (k : TwoParts) (at : ByteOffset) (d : Cursor) (r : ExprAnswer) (old new : List ℕ) → (Ready n c → HeadReads s t n c (head checks ts) h) → h ≡ TwoHead k at d → TwoReads s jets t n k at d (depth - 1) r old new → Ready n c → ExprReads s t n c (expr checks depth ts) r old new
+    pub expr-two : (h : ExprHead) (k : TwoParts) (at : ByteOffset) (d : Cursor) (p : Complete) (r : ExprAnswer) (old mid new : List ℕ) → (Ready n c → HeadReads s t n c (head checks ts) h) → h ≡ TwoHead k at d → TwoReads s jets t n k d (depth - 1) p old mid
+        → (r ≡ completed p) × (new ≡ completedTable at p mid) → Ready n c → ExprReads s t n c (expr checks depth ts) r old new
     unfolding TwoReads
-    expr-two h k at d r old new w e i ready = up r old new (i c ready (begins h (TwoHead k at d) ready w e))
+    expr-two h k at d p r old mid new w e i a ready =
+        up r old new
+        (subst (λ (q : ExprAnswer). ExprReads s t n c (begun (depth - 1)) q old new) (sym (a .0))
+        (subst (λ (q : List ℕ). ExprReads s t n c (begun (depth - 1)) (completed p) old q) (sym (a .1)) (i at c ready (begins h (TwoHead k at d) ready w e))))
 
   -- ---- CMRs by their heads
 

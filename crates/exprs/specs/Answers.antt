@@ -69,13 +69,6 @@ CmrReads s t n c (stop x rest) r old new = (r ≡ NoCmr (refusalAt (length s) x 
 
 -- ---- what begins a part
 
--- For two parts that begin at c: where their keyword is what begins at b, the answer is that for the expression that begins
--- at b; its parts have so much depth.
-unfoldable pub TwoReads : (source jets tokens : List ℕ) → (n : ℕ) → TwoParts → ByteOffset → (c : Cursor) → (depth : ℕ) → ExprAnswer → (old new : List ℕ) → Type 0
-TwoReads s jets t n k at c depth r old new =
-    (b : Cursor) → Ready n b → HeadReads s t n b (head (checksOf jets) (tokensLeft s t n (b .token .0))) (TwoHead k at c)
-    → ExprReads s t n b (goOn (head (checksOf jets) (tokensLeft s t n (b .token .0))) (exprBy (checksOf jets) (expr (checksOf jets) depth))) r old new
-
 -- what begins a CMR
 unfoldable pub cmrHeadBy : (end : ℕ) → Cursor → List Token → CmrHead
 cmrHeadBy end c [] = NoCmrHead (refusalAt end ParseFailed [])
@@ -131,3 +124,10 @@ completed (Incomplete r) = Refused r
 unfoldable pub completedTable : ByteOffset → Complete → List ℕ → List ℕ
 completedTable at (Inner i c) old = written exprWidth old (nextNumber (c .expr .0)) (exprWords (exprRecordBy i at))
 completedTable at (Incomplete r) old = old
+
+-- Two parts that begin at c, with so much depth: where their keyword, at its place, is what begins at b, what is recorded of them
+-- there is the answer for the expression that begins at b.
+unfoldable pub TwoReads : (source jets tokens : List ℕ) → (n : ℕ) → TwoParts → (c : Cursor) → (depth : ℕ) → Complete → (old new : List ℕ) → Type 0
+TwoReads s jets t n k c depth p old new =
+    (at : ByteOffset) (b : Cursor) → Ready n b → HeadReads s t n b (head (checksOf jets) (tokensLeft s t n (b .token .0))) (TwoHead k at c)
+    → ExprReads s t n b (goOn (head (checksOf jets) (tokensLeft s t n (b .token .0))) (exprBy (checksOf jets) (expr (checksOf jets) depth))) (completed p) old (completedTable at p new)

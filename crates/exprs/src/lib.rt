@@ -209,22 +209,15 @@ pub fn parse_expr(
             let p = parse_expr(source, jets, tokens, count, exprs, d, depth - 1);
             finish(exprs, at, unary(kind, p))
         }
-        ExprHead::Two(parts, at, d) => parse_two(
-            source,
-            jets,
-            tokens,
-            count,
-            exprs,
-            parts,
-            at,
-            d,
-            depth - 1,
-        ),
+        ExprHead::Two(parts, at, d) => {
+            let p = parse_two(source, jets, tokens, count, exprs, parts, d, depth - 1);
+            finish(exprs, at, p)
+        }
         ExprHead::Refused(x) => ExprAnswer::Refused(x),
     }
 }
 
-// The two parts behind a keyword, with `depth` left for each, and the expression of both.
+// The two parts behind a keyword, with `depth` left for each.
 fn parse_two(
     source: &[u8],
     jets: &[u8],
@@ -232,34 +225,33 @@ fn parse_two(
     count: u32,
     exprs: &mut [u32],
     parts: TwoParts,
-    at: ByteOffset,
     c: Cursor,
     depth: u32,
-) -> ExprAnswer
+) -> Complete
     requires { ⌜ length (now source) ≤ sourceLimit ⌝ }
-    ensures { λ r. ⌜ TwoReads (now (source .entry)) (now (jets .entry)) (now (tokens .entry)) count parts at c depth r (now (exprs .entry)) (now (exprs .exit)) ⌝ }
+    ensures { λ r. ⌜ TwoReads (now (source .entry)) (now (jets .entry)) (now (tokens .entry)) count parts c depth r (now (exprs .entry)) (now (exprs .exit)) ⌝ }
 {
     match parts {
         TwoParts::Binary(kind) => match parse_expr(source, jets, tokens, count, exprs, c, depth) {
             ExprAnswer::Read(l, d) => {
                 let p = parse_expr(source, jets, tokens, count, exprs, d, depth);
-                finish(exprs, at, binary(kind, l, p))
+                binary(kind, l, p)
             }
-            ExprAnswer::Refused(x) => ExprAnswer::Refused(x),
+            ExprAnswer::Refused(x) => Complete::Refused(x),
         },
         TwoParts::AssertL => match parse_expr(source, jets, tokens, count, exprs, c, depth) {
             ExprAnswer::Read(e, d) => {
                 let p = parse_cmr(source, jets, tokens, count, exprs, d, depth);
-                finish(exprs, at, assert_left(e, p))
+                assert_left(e, p)
             }
-            ExprAnswer::Refused(x) => ExprAnswer::Refused(x),
+            ExprAnswer::Refused(x) => Complete::Refused(x),
         },
         TwoParts::AssertR => match parse_cmr(source, jets, tokens, count, exprs, c, depth) {
             CmrAnswer::Read(cmr, d) => {
                 let p = parse_expr(source, jets, tokens, count, exprs, d, depth);
-                finish(exprs, at, assert_right(cmr, p))
+                assert_right(cmr, p)
             }
-            CmrAnswer::Refused(x) => ExprAnswer::Refused(x),
+            CmrAnswer::Refused(x) => Complete::Refused(x),
         },
     }
 }
