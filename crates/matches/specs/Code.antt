@@ -5,7 +5,7 @@ use Prim.Native.Char.{Char, code}
 use mathlib.Core.Bool.{Bool, _&&_}
 use mathlib.Core.Path.{_≡_}
 use mathlib.Core.List.{List, [], _∷_}
-use lib.ListN.{length, drop, getD}
+use lib.ListN.{length, take, drop, getD}
 use lib.Dec.{eqb, leb}
 use Rattle.records.specs.Base.{if_then_else_, bytes}
 use Rattle.records.specs.TokenKind as token
@@ -28,6 +28,16 @@ named w k n s other = if isWord w n s then k else other
 abbrev pub kindBy : List Fixed → (n : ℕ) → (s : List ℕ) → (other : ℕ) → ℕ
 kindBy [] n s other = other
 kindBy (f ∷ fs) n s other = named (f .text) (token.number (f .kind)) n s (kindBy fs n s other)
+
+-- by the keywords in two halves
+abbrev half : ℕ
+half = 8
+
+unfoldable pub earlyKind : (n : ℕ) → (s : List ℕ) → (other : ℕ) → ℕ
+earlyKind = kindBy (take half keywords)
+
+unfoldable pub lateKind : (n : ℕ) → (s : List ℕ) → (other : ℕ) → ℕ
+lateKind = kindBy (drop half keywords)
 
 unfoldable pub kindOf : (n : ℕ) → (s : List ℕ) → ℕ
 kindOf n s = kindBy keywords n s (if isJet n s then token.number token.jet else token.number token.symbol)

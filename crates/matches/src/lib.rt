@@ -4,7 +4,7 @@ ghost use Prim.Native.Nat.{_<_};
 ghost use lib.ListN.{length, getD};
 ghost use Rattle.records.specs.Base.{if_then_else_};
 ghost use Rattle.matches.specs.Longest.{lexAt};
-ghost use Rattle.matches.specs.Code.{isWord, isJet, named as namedKind, kindOf, Begins, keys, NotIn};
+ghost use Rattle.matches.specs.Code.{isWord, isJet, named as namedKind, lateKind, earlyKind, kindOf, Begins, keys, NotIn};
 use classes::Class;
 use records::kinds::TokenKind;
 
@@ -52,20 +52,25 @@ fn named(s: &[u8], n: usize, w: &[u8], k: u32, other: u32) -> u32
     choose(is_word(s, n, w), k, other)
 }
 
-// The kind of the first n bytes of s, which are a symbol or a word that looks like one.
-fn word_kind(s: &[u8], n: usize) -> u32
-    ensures { λ r. ⌜ r ≡ kindOf n (now (s .entry)) ⌝ }
+// The kind of the first n bytes of s if they are a keyword with at most one expression behind it, else the kind other;
+fn late_keyword(s: &[u8], n: usize, other: u32) -> u32
+    ensures { λ r. ⌜ r ≡ lateKind n (now (s .entry)) other ⌝ }
 {
-    let k = choose(is_jet(s, n), TokenKind::JET, TokenKind::SYMBOL);
-    let k = named(s, n, b"_", TokenKind::UNDERSCORE, k);
+    let k = named(s, n, b"_", TokenKind::UNDERSCORE, other);
     let k = named(s, n, b"witness", TokenKind::WITNESS, k);
     let k = named(s, n, b"iden", TokenKind::IDEN, k);
     let k = named(s, n, b"unit", TokenKind::UNIT, k);
     let k = named(s, n, b"drop", TokenKind::DROP, k);
     let k = named(s, n, b"take", TokenKind::TAKE, k);
     let k = named(s, n, b"injr", TokenKind::INJ_R, k);
-    let k = named(s, n, b"injl", TokenKind::INJ_L, k);
-    let k = named(s, n, b"pair", TokenKind::PAIR, k);
+    named(s, n, b"injl", TokenKind::INJ_L, k)
+}
+
+// with two, or with a literal.
+fn early_keyword(s: &[u8], n: usize, other: u32) -> u32
+    ensures { λ r. ⌜ r ≡ earlyKind n (now (s .entry)) other ⌝ }
+{
+    let k = named(s, n, b"pair", TokenKind::PAIR, other);
     let k = named(s, n, b"comp", TokenKind::COMP, k);
     let k = named(s, n, b"case", TokenKind::CASE, k);
     let k = named(s, n, b"disconnect", TokenKind::DISCONNECT, k);
@@ -73,6 +78,14 @@ fn word_kind(s: &[u8], n: usize) -> u32
     let k = named(s, n, b"assertr", TokenKind::ASSERT_R, k);
     let k = named(s, n, b"assertl", TokenKind::ASSERT_L, k);
     named(s, n, b"const", TokenKind::CONST, k)
+}
+
+// The kind of the first n bytes of s, which are a symbol or a word that looks like one.
+fn word_kind(s: &[u8], n: usize) -> u32
+    ensures { λ r. ⌜ r ≡ kindOf n (now (s .entry)) ⌝ }
+{
+    let k = choose(is_jet(s, n), TokenKind::JET, TokenKind::SYMBOL);
+    early_keyword(s, n, late_keyword(s, n, k))
 }
 
 // What stands at the front of s, which begins with `:`,
