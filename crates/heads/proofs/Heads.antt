@@ -237,6 +237,6 @@ module _ (s jets tokens : List ℕ) (n : ℕ) (c : Cursor) (ready : Ready n c) w
         let from = subst (λ (v : Token). HeadReads s tokens n (stepped c) (head checks (v ∷ tokensLeft s tokens n (c .token .0 + 1))) h) same is in
         heads-after s tokens n to (head checks left) h (subst (λ (ts : List Token). HeadReads s tokens n (stepped c) (head checks ts) h) (sym (x .0)) from)
 
-    pub headless : {y : ParseRefusal} → a ≡ End → y ≡ refusalAt (length s) ParseFailed left → Is (head checks left) (NoHead y)
+    pub headless : {h : ExprHead} → a ≡ End → h ≡ NoHead (refusalAt (length s) ParseFailed left) → Is (head checks left) h
     unfolding HeadReads head choice goOn
-    headless f g = (ParseFailed, left, rw (ahead-end c a left e f), g)
+    headless f g = subst (Is (head checks left)) (sym g) (ParseFailed, left, rw (ahead-end c a left e f), refl)

@@ -51,11 +51,11 @@ record-as at e f = f ∙ ap (λ (k : ExprInner). exprRecordBy k at) (sym e)
 pub spanless : {r : ExprRecord} (k : ℕ) (at : ByteOffset) (l m : ExprNo) {s : Span} → r ≡ recordWith k at l m s → s ≡ noSpan → r ≡ recordWith k at l m noSpan
 spanless k at l m e f = e ∙ ap (recordWith k at l m) f
 
-pub left-as : {i : ExprInner} {e : ExprNo} {k j : Cmr} → i ≡ AssertL e k → k ≡ j → i ≡ AssertL e j
-left-as {e = e} f g = f ∙ ap (AssertL e) g
+pub left-as : (e : ExprNo) {k j : Cmr} (at : ByteOffset) {r : ExprRecord} → k ≡ j → r ≡ exprRecordBy (AssertL e j) at → r ≡ exprRecordBy (AssertL e k) at
+left-as e at f g = g ∙ ap (λ (q : Cmr). exprRecordBy (AssertL e q) at) (sym f)
 
-pub right-as : {i : ExprInner} {e : ExprNo} {k j : Cmr} → i ≡ AssertR k e → k ≡ j → i ≡ AssertR j e
-right-as {e = e} f g = f ∙ ap (λ (q : Cmr). AssertR q e) g
+pub right-as : (e : ExprNo) {k j : Cmr} (at : ByteOffset) {r : ExprRecord} → k ≡ j → r ≡ exprRecordBy (AssertR j e) at → r ≡ exprRecordBy (AssertR k e) at
+right-as e at f g = g ∙ ap (λ (q : Cmr). exprRecordBy (AssertR q e) at) (sym f)
 
 -- ---- heads
 
@@ -102,7 +102,7 @@ module _ (end : ℕ) (c : Cursor) {a : Ahead} (ts : List Token) (e : a ≡ peeke
   unfolding literalAnswer
   literal-end f g = let z = ahead-end c a ts e f in rw (g, z)
 
-  pub hole-end : {x : ParseRefusal} → a ≡ End → x ≡ refusalAt end ParseFailed ts → NoHead x ≡ holeHead end c ts
+  pub hole-end : {h : ExprHead} → a ≡ End → h ≡ NoHead (refusalAt end ParseFailed ts) → h ≡ holeHead end c ts
   unfolding holeHead
   hole-end f g = let z = ahead-end c a ts e f in rw (g, z)
 
@@ -143,14 +143,14 @@ module _ (end : ℕ) (c : Cursor) {a : Ahead} (ts : List Token) (e : a ≡ peeke
         let is : holeHead end c (t ∷ rest) ≡ Whole (Hole (spanOf t)) (record { 0 = t .start }) (stepped c) = rw yes in
         rw (found .4) (ap (λ (q : TokenRecord). Whole (Hole (q .span)) (q .span .start) (stepped c)) (found .3) ∙ sym is ∙ ap (holeHead end c) (sym (found .2)))
 
-    pub hole-other : {y : Bool} {x : ParseRefusal} → y ≡ isOf (tokenOfKind (r .kind)) names → y ≡ false → x ≡ refusalAt end ParseFailed ts → NoHead x ≡ holeHead end c ts
+    pub hole-other : {y : Bool} {h : ExprHead} → y ≡ isOf (tokenOfKind (r .kind)) names → y ≡ false → h ≡ NoHead (refusalAt end ParseFailed ts) → h ≡ holeHead end c ts
     unfolding holeHead
     hole-other g k l =
         let t = found .0 in
         let rest = found .1 in
         let no : isOf t names ≡ false = name-by t rest (found .3) g k in
         let is : holeHead end c (t ∷ rest) ≡ NoHead (refusalAt end ParseFailed (t ∷ rest)) = rw no in
-        ap NoHead (l ∙ ap (refusalAt end ParseFailed) (found .2)) ∙ sym is ∙ ap (holeHead end c) (sym (found .2))
+        l ∙ ap (λ (us : List Token). NoHead (refusalAt end ParseFailed us)) (found .2) ∙ sym is ∙ ap (holeHead end c) (sym (found .2))
 
 -- ---- the token that was peeked
 

@@ -5,14 +5,16 @@ ghost use Prim.Native.Nat.{_≤_};
 ghost use lib.ListN.{length};
 ghost use Rattle.records.specs.Limits.{sourceLimit};
 ghost use Rattle.lex.specs.Tokens.{recordOf};
+ghost use Rattle.checks.specs.declared.Fault.the-variants.{ParseFailed};
 ghost use Rattle.checks.specs.Checks.{jetVerdict, checksOf};
 ghost use Rattle.literals.specs.Literals.{spanText};
 ghost use Rattle.cursor.specs.Tokens.{tokenOf, tokenOfKind, tokensLeft};
-ghost use Rattle.cursor.specs.Cursor.{Ready};
+ghost use Rattle.cursor.specs.Cursor.{refusalAt, Ready};
 ghost use Rattle.grammar.specs.Rule.{isOf};
 ghost use Rattle.grammar.specs.Grammar.{literals, head};
 ghost use Rattle.heads.specs.Answers.{recordWith, noExpr, exprRecordBy, KeywordIs, keywordHead, testedBy, literalAnswer, holeHead, wordHead, failHead, HeadReads};
-ghost use Rattle.heads.specs.declared.ExprInner.the-variants.{Jet};
+ghost use Rattle.heads.specs.declared.ExprInner.the-variants.{AssertL, AssertR, Jet};
+ghost use Rattle.heads.specs.declared.ExprHead.the-variants.{Refused as NoHead};
 use checks::Fault;
 use checks::Verdict;
 use cursor::Ahead;
@@ -96,25 +98,39 @@ fn leaf_record(kind: u32, at: ByteOffset, span: Span) -> ExprRecord
     parts_record(kind, at, ExprNo(0), ExprNo(0), span)
 }
 
+// The record of `assertl`, whose right side is the CMR: a literal leaves that side 0 and is the span.
+fn assert_left_record(at: ByteOffset, e: ExprNo, cmr: Cmr) -> ExprRecord
+    ensures { λ r. ⌜ r ≡ exprRecordBy (AssertL e cmr) at ⌝ }
+{
+    match cmr {
+        Cmr::Expr(f) => parts_record(NodeKind::ASSERT_L, at, e, f, records::no_span()),
+        Cmr::Literal(span) => parts_record(NodeKind::ASSERT_L, at, e, ExprNo(0), span),
+    }
+}
+
+// The record of `assertr`, whose left side is the CMR.
+fn assert_right_record(at: ByteOffset, cmr: Cmr, e: ExprNo) -> ExprRecord
+    ensures { λ r. ⌜ r ≡ exprRecordBy (AssertR cmr e) at ⌝ }
+{
+    match cmr {
+        Cmr::Expr(f) => parts_record(NodeKind::ASSERT_R, at, f, e, records::no_span()),
+        Cmr::Literal(span) => parts_record(NodeKind::ASSERT_R, at, ExprNo(0), e, span),
+    }
+}
+
 impl ExprInner {
-    // The record of an expression at its place. The CMR is the right side of `assertl` and the left one of `assertr`; a literal
-    // leaves that side 0 and is the span.
+    // The record of an expression at its place.
     pub fn record(self, at: ByteOffset) -> ExprRecord
         ensures { λ r. ⌜ r ≡ exprRecordBy self at ⌝ }
     {
+        let none = records::no_span();
         match self {
             ExprInner::Reference(span) => leaf_record(NodeKind::REFERENCE, at, span),
-            ExprInner::AssertL(e, cmr) => match cmr {
-                Cmr::Expr(f) => parts_record(NodeKind::ASSERT_L, at, e, f, records::no_span()),
-                Cmr::Literal(span) => parts_record(NodeKind::ASSERT_L, at, e, ExprNo(0), span),
-            },
-            ExprInner::AssertR(cmr, e) => match cmr {
-                Cmr::Expr(f) => parts_record(NodeKind::ASSERT_R, at, f, e, records::no_span()),
-                Cmr::Literal(span) => parts_record(NodeKind::ASSERT_R, at, ExprNo(0), e, span),
-            },
-            ExprInner::Nullary(kind) => leaf_record(kind.0, at, records::no_span()),
-            ExprInner::Unary(kind, e) => parts_record(kind.0, at, e, ExprNo(0), records::no_span()),
-            ExprInner::Binary(kind, l, r) => parts_record(kind.0, at, l, r, records::no_span()),
+            ExprInner::AssertL(e, cmr) => assert_left_record(at, e, cmr),
+            ExprInner::AssertR(cmr, e) => assert_right_record(at, cmr, e),
+            ExprInner::Nullary(kind) => leaf_record(kind.0, at, none),
+            ExprInner::Unary(kind, e) => parts_record(kind.0, at, e, ExprNo(0), none),
+            ExprInner::Binary(kind, l, r) => parts_record(kind.0, at, l, r, none),
             ExprInner::Hole(span) => leaf_record(NodeKind::HOLE, at, span),
             ExprInner::Fail(span) => leaf_record(NodeKind::FAIL, at, span),
             ExprInner::Jet(span) => leaf_record(NodeKind::JET, at, span),
@@ -155,6 +171,14 @@ fn parse_literal(source: &[u8], tokens: &[u32], count: u32, c: Cursor) -> Litera
     }
 }
 
+// No expression begins at the cursor: refusal 6.
+fn no_head(source: &[u8], tokens: &[u32], count: u32, c: Cursor) -> ExprHead
+    requires { ⌜ length (now source) ≤ sourceLimit ⌝ }
+    ensures { λ r. ⌜ r ≡ NoHead (refusalAt (length (now (source .entry))) ParseFailed (tokensLeft (now (source .entry)) (now (tokens .entry)) count (c .token .0))) ⌝ }
+{
+    ExprHead::Refused(cursor::refusal(source, tokens, count, c, Fault::ParseFailed))
+}
+
 // Behind `?`: a name, which is the place of the hole.
 fn hole_head(source: &[u8], tokens: &[u32], count: u32, c: Cursor) -> ExprHead
     requires { ⌜ length (now source) ≤ sourceLimit ⌝ }
@@ -168,15 +192,9 @@ fn hole_head(source: &[u8], tokens: &[u32], count: u32, c: Cursor) -> ExprHead
             if cursor::is_name(kind) {
                 return ExprHead::Whole(ExprInner::Hole(span), at, d);
             }
-            ExprHead::Refused(cursor::refusal(source, tokens, count, c, Fault::ParseFailed))
+            no_head(source, tokens, count, c)
         }
-        Ahead::End => ExprHead::Refused(cursor::refusal(
-            source,
-            tokens,
-            count,
-            c,
-            Fault::ParseFailed,
-        )),
+        Ahead::End => no_head(source, tokens, count, c),
     }
 }
 
@@ -299,12 +317,6 @@ pub fn expr_head(source: &[u8], jets: &[u8], tokens: &[u32], count: u32, c: Curs
 {
     match cursor::peek(source, tokens, count, c) {
         Ahead::Next(t, d) => head_of(source, jets, tokens, count, t, d),
-        Ahead::End => ExprHead::Refused(cursor::refusal(
-            source,
-            tokens,
-            count,
-            c,
-            Fault::ParseFailed,
-        )),
+        Ahead::End => no_head(source, tokens, count, c),
     }
 }

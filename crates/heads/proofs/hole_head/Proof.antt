@@ -8,10 +8,10 @@ returns : tie.Need-returns
 returns c = hole-read _ _ _ (c .before .before .before .before .before .before .before .before .peek .ensures) _ _ (c .before .before .before .before .before .before .t .given .1) (c .before .is-name .ensures) (c .if1 .taken)
 
 returns-2 : tie.Need-returns-2
-returns-2 c = hole-other _ _ _ (c .before .before .before .before .before .before .before .before .before .peek .ensures) _ _ (c .before .before .before .before .before .before .before .t .given .1) (c .before .before .is-name .ensures) (c .before .if1 .left) (c .refusal .ensures)
+returns-2 c = hole-other _ _ _ (c .before .before .before .before .before .before .before .before .before .peek .ensures) _ _ (c .before .before .before .before .before .before .before .t .given .1) (c .before .before .is-name .ensures) (c .before .if1 .left) (c .no-head .ensures)
 
 returns-3 : tie.Need-returns-3
-returns-3 c = hole-end _ _ _ (c .before .before .before .peek .ensures) (c .before .enum-told .given .1) (c .refusal2 .ensures)
+returns-3 c = hole-end _ _ _ (c .before .before .before .peek .ensures) (c .before .enum-told .given .1) (c .no-head2 .ensures)
 
 pub hole-head-spec : {M : Type 1} → statement M
 hole-head-spec = tie.close (tie.spec (λ c κs. search needs) (λ c. search needs) (λ c κs. search needs) returns (λ c κs. search needs) (λ c. search needs) (λ c κs. search needs) returns-2 returns-3)
