@@ -199,18 +199,19 @@ pub fn parse_expr(
     if depth == 0 {
         return ExprAnswer::Refused(cursor::refusal(source, tokens, count, c, Fault::TooDeep));
     }
+    let below = depth - 1;
     match heads::expr_head(source, jets, tokens, count, c) {
         ExprHead::Whole(inner, at, d) => finish(exprs, at, Complete::Inner(inner, d)),
         ExprHead::Parens(d) => {
-            let p = parse_expr(source, jets, tokens, count, exprs, d, depth - 1);
+            let p = parse_expr(source, jets, tokens, count, exprs, d, below);
             close(source, tokens, count, p)
         }
         ExprHead::Unary(kind, at, d) => {
-            let p = parse_expr(source, jets, tokens, count, exprs, d, depth - 1);
+            let p = parse_expr(source, jets, tokens, count, exprs, d, below);
             finish(exprs, at, unary(kind, p))
         }
         ExprHead::Two(parts, at, d) => {
-            let p = parse_two(source, jets, tokens, count, exprs, parts, d, depth - 1);
+            let p = parse_two(source, jets, tokens, count, exprs, parts, d, below);
             finish(exprs, at, p)
         }
         ExprHead::Refused(x) => ExprAnswer::Refused(x),

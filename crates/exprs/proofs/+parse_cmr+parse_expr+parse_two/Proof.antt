@@ -151,4 +151,4 @@ unfolding TwoReads completed completedTable
 parse-two-returns-6 t c = λ at b ready w. right-refused _ (c .before .before .before .before .before .before .before .before .before .before .before .before .before .args .jets .now) _ _ b _ _ at _ _ _ _ _ (c .before .before .before .before .before .before .before .enum-told2 .given .1) (c .before .before .before .before .before .parse-cmr2 .ensures) (c .before .x3 .given .1) ready w
 
 pub +parse-cmr+parse-expr+parse-two-spec : {M : Type 1} → statement M
-+parse-cmr+parse-expr+parse-two-spec = close μ-parse-cmr μ-parse-expr μ-parse-two (λ t. parse-cmr-lts.spec (parse-cmr-calls t) (parse-cmr-at t) parse-cmr.Post (λ c κs. search needs) (λ c. search needs) (parse-cmr-parse-expr-requires t) (λ c κs. search needs) (λ c. search needs) (λ c. search needs) (λ c. search needs) (parse-cmr-returns t) (parse-cmr-returns-2 t) (parse-cmr-returns-3 t)) (λ t. parse-expr-lts.spec (parse-expr-calls t) (parse-expr-at t) parse-expr.Post (λ c κs. search needs) (parse-expr-returns t) (λ c κs. search needs) (λ c. search needs) (λ c κs. search needs) (λ c. search needs) (λ c. search needs) (parse-expr-parse-expr-requires t) (λ c κs. search needs) (λ c. search needs) (λ c. search needs) (parse-expr-parse-expr-requires-2 t) (λ c κs. search needs) (λ c κs. search needs) (λ c. search needs) (λ c. search needs) (parse-expr-parse-two-requires t) (λ c κs. search needs) (λ c. search needs) (λ c. search needs) (parse-expr-returns-2 t) (λ c. search needs) (parse-expr-returns-3 t) (λ c. search needs) (parse-expr-returns-4 t) (λ c. search needs) (parse-expr-returns-5 t) (parse-expr-returns-6 t)) λ t. parse-two-lts.spec (parse-two-calls t) (parse-two-at t) parse-two.Post (λ c. search needs) (parse-two-parse-expr-requires t) (λ c. search needs) (parse-two-parse-expr-requires-2 t) (λ c κs. search needs) (λ c. search needs) (λ c. search needs) (parse-two-parse-expr-requires-3 t) (λ c. search needs) (parse-two-parse-cmr-requires t) (λ c κs. search needs) (λ c. search needs) (λ c. search needs) (parse-two-parse-cmr-requires-2 t) (λ c. search needs) (parse-two-parse-expr-requires-4 t) (λ c κs. search needs) (λ c. search needs) (λ c. search needs) (parse-two-returns t) (λ c. search needs) (parse-two-returns-2 t) (λ c. search needs) (parse-two-returns-3 t) (λ c. search needs) (parse-two-returns-4 t) (λ c. search needs) (parse-two-returns-5 t) (λ c. search needs) (parse-two-returns-6 t)
++parse-cmr+parse-expr+parse-two-spec = close μ-parse-cmr μ-parse-expr μ-parse-two (λ t. parse-cmr-lts.spec (parse-cmr-calls t) (parse-cmr-at t) parse-cmr.Post (λ c κs. search needs) (λ c. search needs) (parse-cmr-parse-expr-requires t) (λ c κs. search needs) (λ c. search needs) (λ c. search needs) (λ c. search needs) (parse-cmr-returns t) (parse-cmr-returns-2 t) (parse-cmr-returns-3 t)) (λ t. parse-expr-lts.spec (parse-expr-calls t) (parse-expr-at t) parse-expr.Post (λ c κs. search needs) (parse-expr-returns t) (λ c. search needs) (λ c κs. search needs) (λ c. search needs) (λ c κs. search needs) (λ c. search needs) (parse-expr-parse-expr-requires t) (λ c κs. search needs) (λ c. search needs) (parse-expr-parse-expr-requires-2 t) (λ c κs. search needs) (λ c κs. search needs) (λ c. search needs) (parse-expr-parse-two-requires t) (λ c κs. search needs) (λ c. search needs) (λ c. search needs) (parse-expr-returns-2 t) (λ c. search needs) (parse-expr-returns-3 t) (λ c. search needs) (parse-expr-returns-4 t) (λ c. search needs) (parse-expr-returns-5 t) (parse-expr-returns-6 t)) λ t. parse-two-lts.spec (parse-two-calls t) (parse-two-at t) parse-two.Post (λ c. search needs) (parse-two-parse-expr-requires t) (λ c. search needs) (parse-two-parse-expr-requires-2 t) (λ c κs. search needs) (λ c. search needs) (λ c. search needs) (parse-two-parse-expr-requires-3 t) (λ c. search needs) (parse-two-parse-cmr-requires t) (λ c κs. search needs) (λ c. search needs) (λ c. search needs) (parse-two-parse-cmr-requires-2 t) (λ c. search needs) (parse-two-parse-expr-requires-4 t) (λ c κs. search needs) (λ c. search needs) (λ c. search needs) (parse-two-returns t) (λ c. search needs) (parse-two-returns-2 t) (λ c. search needs) (parse-two-returns-3 t) (λ c. search needs) (parse-two-returns-4 t) (λ c. search needs) (parse-two-returns-5 t) (λ c. search needs) (parse-two-returns-6 t)
