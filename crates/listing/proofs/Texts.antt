@@ -21,6 +21,7 @@ use Rattle.ends.specs.declared.ReadCounts.{ReadCounts}
 use Rattle.ends.specs.declared.ReadAnswer.{ReadAnswer}
 use Rattle.ends.specs.declared.ReadAnswer.the-variants.{Read, Refused}
 use Rattle.reader.proofs.Answers.{row-is}
+use Rattle.ends.specs.declared.ListAnswer.{ListAnswer}
 use Rattle.ends.specs.declared.ListAnswer.the-variants.{Listed, NoRoom}
 use Rattle.listing.specs.Listing.{listing, listAnswer, listedIn}
 use Rattle.listing.specs.Steps.{textOf}
@@ -76,15 +77,19 @@ puts-same t u out out' r e p = subst (λ (v : List ℕ). Puts v out 0 out' r) (s
 pub room-enough : (n room : ℕ) → n ≤ listingLimit → listingLimit ≤ room → true ≡ leb n room
 room-enough n room a b = sym (le-leb n room (omega arith))
 
-pub listed-all : (text u out out' : List ℕ) (n : ℕ) (b : Bool) → u ≡ text → b ≡ leb (length u) (length out) → b ≡ true → Puts u out 0 out' n → (Listed n ≡ listAnswer text (length out)) × (out' ≡ listedIn text out)
+pub listed-all : (text out out' : List ℕ) (n : ℕ) (b : Bool) → b ≡ leb (length text) (length out) → b ≡ true → Puts text out 0 out' n → (Listed n ≡ listAnswer text (length out)) × (out' ≡ listedIn text out)
 unfolding listAnswer listedIn
-listed-all text u out out' n b e t q p =
-    let fits : leb (length text) (length out) ≡ true = ap (λ (v : List ℕ). leb (length v) (length out)) (sym e) ∙ sym t ∙ q in
-    let size : n ≡ length text = omega (arith, p .behind, ap length e) in
-    (rw (size, fits), rw fits (p .written ∙ ap (sets out 0) e ∙ sets-front text out (leb-true (length text) (length out) fits)))
+listed-all text out out' n b t q p =
+    let fits : leb (length text) (length out) ≡ true = sym t ∙ q in
+    let size : n ≡ length text = omega (arith, p .behind) in
+    (rw (size, fits), rw fits (p .written ∙ sets-front text out (leb-true (length text) (length out) fits)))
 
-pub listed-none : (text u out : List ℕ) (b : Bool) → u ≡ text → b ≡ leb (length u) (length out) → b ≡ false → (NoRoom ≡ listAnswer text (length out)) × (out ≡ listedIn text out)
+pub listed-none : (text out : List ℕ) (b : Bool) → b ≡ leb (length text) (length out) → b ≡ false → (NoRoom ≡ listAnswer text (length out)) × (out ≡ listedIn text out)
 unfolding listAnswer listedIn
-listed-none text u out b e t q =
-    let short : leb (length text) (length out) ≡ false = ap (λ (v : List ℕ). leb (length v) (length out)) (sym e) ∙ sym t ∙ q in
+listed-none text out b t q =
+    let short : leb (length text) (length out) ≡ false = sym t ∙ q in
     (rw short, rw short)
+
+-- one text for the other
+pub listed-as : (t u out out' : List ℕ) (r : ListAnswer) → t ≡ u → r ≡ listAnswer t (length out) → out' ≡ listedIn t out → (r ≡ listAnswer u (length out)) × (out' ≡ listedIn u out)
+listed-as t u out out' r e a o = (a ∙ ap (λ (v : List ℕ). listAnswer v (length out)) e, o ∙ ap (λ (v : List ℕ). listedIn v out) e)

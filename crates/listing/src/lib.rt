@@ -70,6 +70,25 @@ fn has_room(
     list_length(source, answer, names, nodes, errors) <= room
 }
 
+// Writes it, if there is room for all of it.
+fn list_read(
+    source: &[u8],
+    answer: ReadAnswer,
+    names: &[u32],
+    nodes: &[u32],
+    errors: &[u32],
+    out: &mut [u8],
+) -> ListAnswer
+    requires { ⌜ length (textOf (now source) answer (now names) (now nodes) (now errors)) ≤ listingLimit ⌝ }
+    ensures answer { λ r. ⌜ r ≡ listAnswer (textOf (now (source .entry)) answer (now (names .entry)) (now (nodes .entry)) (now (errors .entry))) (length (now (out .entry))) ⌝ }
+    ensures output { λ _. ⌜ now (out .exit) ≡ listedIn (textOf (now (source .entry)) answer (now (names .entry)) (now (nodes .entry)) (now (errors .entry))) (now (out .entry)) ⌝ }
+{
+    if has_room(source, answer, names, nodes, errors, out.len()) {
+        return ListAnswer::Listed(list_answer(source, answer, names, nodes, errors, out));
+    }
+    ListAnswer::NoRoom
+}
+
 // Reads a source into eight lent tables and writes its listing into a lent output, for any bytes, any jet list, any tables and any
 // output; where there is no room for all of it, no byte is written.
 pub fn list(
@@ -101,8 +120,5 @@ pub fn list(
         errors,
         work,
     );
-    if has_room(source, answer, names, nodes, errors, out.len()) {
-        return ListAnswer::Listed(list_answer(source, answer, names, nodes, errors, out));
-    }
-    ListAnswer::NoRoom
+    list_read(source, answer, names, nodes, errors, out)
 }

@@ -24,19 +24,14 @@ pub own-tables : (source jets ts ls es ty ns xs rs ws : List ℕ) → length ts 
 unfolding readInto shortToReadBy ast.shortToParseBy
 own-tables source jets ts ls es ty ns xs rs ws a b c d e f g h = rw (a, b, c, d, e, f, g, h)
 
--- the listing of one reading is that of the other
-pub listed-own : (source out out' : List ℕ) (x y : Reading) (r : ListAnswer) → x ≡ y → r ≡ listAnswer (listing source x) (length out) → out' ≡ listedIn (listing source x) out → (r ≡ listAnswer (listing source y) (length out)) × (out' ≡ listedIn (listing source y) out)
-listed-own source out out' x y r e a o =
-    (a ∙ ap (λ (v : Reading). listAnswer (listing source v) (length out)) e, o ∙ ap (λ (v : Reading). listedIn (listing source v) out) e)
-
 -- a refused jet list: there is room for the words, or none
 pub refused-all : (out out' : List ℕ) (n : ℕ) → 13 ≤ length out → Puts refusedJets out 0 out' n → (Listed 13 ≡ listAnswer refusedJets (length out)) × (out' ≡ listedIn refusedJets out)
 refused-all out out' n h p =
     let size : n ≡ 13 = omega (arith, p .behind) in
-    rw size at (listed-all refusedJets refusedJets out out' n true refl (sym (le-leb 13 (length out) h)) refl p)
+    rw size at (listed-all refusedJets out out' n true (sym (le-leb 13 (length out) h)) refl p)
 
 pub refused-none : (out : List ℕ) → length out < 13 → (NoRoom ≡ listAnswer refusedJets (length out)) × (out ≡ listedIn refusedJets out)
-refused-none out h = listed-none refusedJets refusedJets out false refl (sym (lt-leb 13 (length out) h)) refl
+refused-none out h = listed-none refusedJets out false (sym (lt-leb 13 (length out) h)) refl
 
 -- the sheet by the length of the jet list
 pub jets-refused : (source jets : List ℕ) → jetsLimit < length jets → refusedJets ≡ sheet source jets
@@ -46,10 +41,6 @@ jets-refused source jets h = rw (lt-ltb jetsLimit (length jets) h)
 pub jets-taken : (source jets : List ℕ) → length jets ≤ jetsLimit → listing source (reading source jets) ≡ sheet source jets
 unfolding sheet
 jets-taken source jets h = rw (le-ltb jetsLimit (length jets) h)
-
--- one text for the other
-pub filled-as : (t u out out' : List ℕ) (r : ListAnswer) → t ≡ u → r ≡ listAnswer t (length out) → out' ≡ listedIn t out → (r ≡ listAnswer u (length out)) × (out' ≡ listedIn u out)
-filled-as t u out out' r e a o = (a ∙ ap (λ (v : List ℕ). listAnswer v (length out)) e, o ∙ ap (λ (v : List ℕ). listedIn v out) e)
 
 -- what is said to be written lies in the output
 pub inside : (text out out' : List ℕ) (r : ℕ) → r ≡ bytesOf (listAnswer text (length out)) → out' ≡ listedIn text out → (r ≤ length out') × (r ≡ length (take r out'))
