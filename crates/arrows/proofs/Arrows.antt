@@ -2,14 +2,13 @@
 use Prim.Native.Nat.{ℕ, _+_}
 use mathlib.Core.Bool.{Bool, true, false}
 use mathlib.Core.Path.{_≡_, refl, sym, ap, subst, _∙_}
-use mathlib.Core.List.{List, [], _∷_, _++_, map}
+use mathlib.Core.List.{List, [], _∷_, _++_}
 use mathlib.Core.Option.{Option, none, some}
 use native.Mathlib.Omega.{arith}
 use lib.Dec.{eqb}
 use lib.ListN.{length}
 use Rattle.records.specs.Base.{if_then_else_}
 use Rattle.records.specs.Limits.{depthLimit, typeWidth}
-use Rattle.records.specs.Records.{typeWords}
 use Rattle.records.specs.TokenKind as token
 use Rattle.records.specs.declared.numbers.TypeNo.{TypeNo}
 use Rattle.tables.specs.Tables.{filled, beyond}
@@ -28,15 +27,15 @@ use Rattle.cursor.proofs.Meets.{Meets, passes, refuses, meets}
 use Rattle.cursor.proofs.Reached.{reached-none, reached-ready, reached-go, reached-after, reached-step, reached-first}
 use Rattle.grammar.specs.Tree as tree
 use Rattle.grammar.specs.Tree.{Ty, Arrow, present}
-use Rattle.grammar.specs.Rule.{Parsed, got, stop, goOn, entry, oneOf, expect, perhaps}
-use Rattle.grammar.specs.Grammar.{type, arrow, arrowIf, perhapsArrow}
+use Rattle.grammar.specs.Rule.{Parsed, got, stop, goOn, entry, expect, perhaps}
+use Rattle.grammar.specs.Grammar.{type, arrow, perhapsArrow}
 use Rattle.grammar.specs.Recorded.{typeWeight, typeNo, typeRecords}
 use Rattle.types.specs.declared.TypeAnswer.{TypeAnswer}
 use Rattle.types.specs.declared.TypeAnswer.the-variants.{Read, Refused}
 use Rattle.arrows.specs.declared.ArrowAnswer.{ArrowAnswer}
 use Rattle.arrows.specs.declared.ArrowAnswer.the-variants.{Read as ReadArrow, Refused as NoArrow}
 use Rattle.types.specs.Answers.{typeRows, TypeReads}
-use Rattle.arrows.specs.Answers.{arrowRows, arrowTo, orAbsent, ArrowReads}
+use Rattle.arrows.specs.Answers.{arrowTo, orAbsent, ArrowReads}
 use Rattle.types.proofs.Atoms.{rows-weigh, rows-append, filled-stays}
 
 module _ (s t : List ℕ) (n : ℕ) (c : Cursor) (ready : Ready n c) where

@@ -1,18 +1,16 @@
 -- The loop over lines: the lines read so far, their records in the tables, and what is still to read. Assumes nothing.
-use Prim.Native.Nat.{ℕ, zero, suc, _+_, _-_, _≤_, _<_}
+use Prim.Native.Nat.{ℕ, _+_, _-_, _≤_, _<_}
 use mathlib.Core.Path.{_≡_, refl, sym, ap, subst, _∙_}
 use mathlib.Core.List.{List, [], _∷_, _++_, map, map-append}
-use mathlib.Core.Option.{Option, none, some}
+use mathlib.Core.Option.{Option, some}
 use native.Mathlib.Omega.{arith}
 use native.Mathlib.Nat.{zero-add}
 use lib.ListN.{length, length-append, length-map}
 use Rattle.records.specs.Limits.{recordLimit, lineWidth, exprWidth, typeWidth}
 use Rattle.records.specs.Records.{lineWords, exprWords, typeWords}
 use Rattle.records.specs.declared.LineRecord.{LineRecord}
-use Rattle.records.specs.declared.ExprRecord.{ExprRecord}
-use Rattle.records.specs.declared.TypeRecord.{TypeRecord}
-use Rattle.tables.specs.Tables.{tableOf, written, filled, beyond}
-use Rattle.tables.proofs.Laws.{Wide, none as no-rows, wide-map, table-append, table-again}
+use Rattle.tables.specs.Tables.{tableOf, written, filled}
+use Rattle.tables.proofs.Laws.{wide-map, table-again}
 use Rattle.tables.proofs.Filled.{filled-table, filled-one, table-beyond}
 use Rattle.lex.specs.Tokens.{Token}
 use Rattle.checks.specs.declared.Fault.{Fault}
@@ -25,7 +23,7 @@ use Rattle.cursor.proofs.Laws.{left-length}
 use Rattle.cursor.proofs.Steps.{next-below}
 use Rattle.cursor.proofs.Reached.{reached-none, reached-ready, reached-go}
 use Rattle.grammar.specs.Tree.{Line, typesOf}
-use Rattle.grammar.specs.Rule.{Parsed, got, stop, goOn, repeatFor, repeat}
+use Rattle.grammar.specs.Rule.{Parsed, got, stop, goOn, repeat}
 use Rattle.grammar.specs.Grammar.{line, another, lines}
 use Rattle.grammar.specs.Recorded.{typeRecords, linePart, exprsOf, sourceWeight, typesInLine, lineRecord, lineTypes, exprRecords, lineRecords, linesExprs, linesTypes, lineRows, exprRowsOf, typeRowsOf}
 use Rattle.grammar.proofs.Repeat.{repeat-stop, repeat-on, repeat-off}
@@ -35,7 +33,6 @@ use Rattle.grammar.proofs.Snoc.{lines-exprs-snoc, lines-types-snoc, line-record
 use Rattle.exprs.specs.Answers.{exprRows}
 use Rattle.lines.specs.declared.LineAnswer.{LineAnswer}
 use Rattle.lines.specs.declared.LineAnswer.the-variants.{Read, Refused}
-use Rattle.ends.specs.declared.ParseEnd.{ParseEnd}
 use Rattle.ends.specs.declared.ParseEnd.the-variants.{Lines, Refused as NoLines}
 use Rattle.lines.specs.Answers.{LineReads}
 use Rattle.ast.specs.Parsing.{linesIn, endBy}

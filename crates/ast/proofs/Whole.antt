@@ -1,12 +1,12 @@
 -- The answer for any source, any jet list and any tables, by the tests that came before it. Assumes nothing.
-use Prim.Native.Nat.{ℕ, zero, suc, pred, _*_, _≤_, _<_}
+use Prim.Native.Nat.{ℕ, _*_, _≤_, _<_}
 use mathlib.Core.Bool.{Bool, true, false, _||_}
-use mathlib.Core.Path.{_≡_, refl, sym, ap, subst, _∙_}
-use mathlib.Core.List.{List, [], _∷_, map}
+use mathlib.Core.Path.{_≡_, refl, sym, ap, _∙_}
+use mathlib.Core.List.{List, [], _∷_}
 use native.Mathlib.Omega.{arith}
 use lib.Dec.{ltb}
 use lib.ListN.{length, take}
-use borrow.Author.Tests.{ltb-true, ltb-false, le-ltb}
+use borrow.Author.Tests.{ltb-false, le-ltb}
 use Rattle.records.specs.Base.{if_then_else_}
 use Rattle.records.specs.Limits.{sourceLimit, recordLimit, tokenWidth, lineWidth, exprWidth, typeWidth}
 use Rattle.tables.specs.Tables.{tableOf}

@@ -1,10 +1,10 @@
 -- A token whose kind is none of a table's has no entry there. Assumes nothing.
 use Prim.Native.Nat.{ℕ}
 use mathlib.Core.Bool.{Bool, true, false, _&&_, _||_}
-use mathlib.Core.Path.{_≡_, refl, sym, _∙_}
+use mathlib.Core.Path.{_≡_, refl, _∙_}
 use mathlib.Core.Logic.{_⊎_, inl, inr}
 use mathlib.Core.List.{List, [], _∷_}
-use mathlib.Core.Option.{Option, none}
+use mathlib.Core.Option.{none}
 use native.Mathlib.Omega.{arith}
 use lib.Dec.{eqb}
 use borrow.Author.Tests.{eqb-true, ne-eqb}
@@ -14,7 +14,7 @@ use Rattle.records.proofs.Choices.{and-left, and-right, or-cases}
 use Rattle.lex.specs.Tokens.{Token}
 use Rattle.matches.specs.Code.{NotIn}
 use Rattle.checks.specs.declared.Fault.the-variants.{ParseFailed}
-use Rattle.grammar.specs.Rule.{Parsed, stop, Table, entry, choice}
+use Rattle.grammar.specs.Rule.{stop, Table, entry, choice}
 
 abbrev among : List ℕ → ℕ → Bool
 among [] k = false

@@ -8,9 +8,8 @@ use Rattle.records.specs.Base.{if_then_else_}
 use Rattle.records.specs.TokenKind as token
 use Rattle.lex.specs.Tokens.{Token}
 use Rattle.checks.specs.declared.Fault.the-variants.{ParseFailed}
-use Rattle.grammar.specs.Rule.{Parsed, got, stop, oneOf, expect}
+use Rattle.grammar.specs.Rule.{got, stop, oneOf, expect}
 use Rattle.cursor.specs.declared.Cursor.{Cursor}
-use Rattle.cursor.specs.declared.Expected.{Expected}
 use Rattle.cursor.specs.declared.Expected.the-variants.{Passed, Refused}
 use Rattle.cursor.specs.Cursor.{refusalAt, stepped, expected}
 

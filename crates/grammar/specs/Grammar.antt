@@ -13,7 +13,7 @@ use Rattle.checks.specs.declared.PowerVerdict.the-variants.{Power, BadPower}
 use Rattle.checks.specs.Checks.{Checks}
 use Rattle.grammar.specs.Tree as tree
 use Rattle.grammar.specs.Tree.{Nullary, nullaryToken, Unary, unaryToken, Binary, binaryToken, Expr, Cmr, Op, opToken, Ty, Arrow, Line}
-use Rattle.grammar.specs.Rule.{Parsed, got, stop, Rule, goOn, _>>=_, _>>_, give, refuse, refuseAt, oneOf, expect, Table, entry, choice, perhaps, repeat}
+use Rattle.grammar.specs.Rule.{got, Rule, goOn, _>>=_, _>>_, give, refuse, refuseAt, oneOf, expect, Table, choice, perhaps, repeat}
 
 -- a name is a symbol or `_`
 abbrev pub names : List token.Kind

@@ -1,20 +1,16 @@
 -- Document 01, Sizes and Grammar: the records of expressions, types and lines, from the trees. Records are made when complete,
 -- children first, left before right. `before` is how many records stand before them: a record's number is the count so far
 -- plus one, so what is recorded last has the count as its number.
-use Prim.Native.Nat.{ℕ, suc, _+_}
-use mathlib.Core.Bool.{Bool}
+use Prim.Native.Nat.{ℕ, _+_}
 use mathlib.Core.List.{List, [], _∷_, _++_, map}
 use Rattle.records.specs.Base.{if_then_else_}
 use Rattle.records.specs.Records.{lineWords, exprWords, typeWords}
 use Rattle.records.specs.NodeKind as node
 use Rattle.records.specs.TypeKind as kind
 use Rattle.records.specs.declared.Span.{Span}
-use Rattle.records.specs.declared.kinds.NodeKind.{NodeKind}
-use Rattle.records.specs.declared.kinds.TypeKind.{TypeKind}
 use Rattle.records.specs.declared.LineRecord.{LineRecord}
 use Rattle.records.specs.declared.ExprRecord.{ExprRecord}
 use Rattle.records.specs.declared.TypeRecord.{TypeRecord}
-use Rattle.lex.specs.Tokens.{Token}
 use Rattle.grammar.specs.Tree as tree
 use Rattle.grammar.specs.Tree.{Op, Ty, present, Line, typesOf}
 use Rattle.grammar.specs.Part as part

@@ -2,7 +2,7 @@
 -- keyword, where a place is. Parentheses leave no trace.
 use Prim.Native.Nat.{ℕ}
 use mathlib.Core.Bool.{Bool, true, false, _&&_}
-use mathlib.Core.List.{List, [], _∷_}
+use mathlib.Core.List.{[], _∷_}
 use mathlib.Core.Option.{Option, none, some}
 use Rattle.records.specs.TokenKind as token
 use Rattle.lex.specs.Tokens.{Token}

@@ -16,7 +16,6 @@ use Rattle.checks.specs.declared.Verdict.the-variants.{Pass, Fails}
 use Rattle.literals.specs.Literals.{bitLength, spanText}
 use Rattle.checks.specs.Checks.{wordVerdict, failVerdict, jetVerdict, Checks, checksOf}
 use Rattle.cursor.specs.declared.Cursor.{Cursor}
-use Rattle.cursor.specs.declared.ParseRefusal.{ParseRefusal}
 use Rattle.cursor.specs.declared.Ahead.{Ahead}
 use Rattle.cursor.specs.declared.Ahead.the-variants.{Next, End}
 use Rattle.cursor.specs.Tokens.{tokenAt, tokenOf, tokensLeft}

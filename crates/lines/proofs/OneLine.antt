@@ -2,22 +2,19 @@
 use Prim.Native.Nat.{ℕ, _+_, _<_}
 use mathlib.Core.Bool.{Bool, true, false, _||_}
 use mathlib.Core.Path.{_≡_, refl, sym, ap, subst, _∙_}
-use mathlib.Core.List.{List, [], _∷_, map}
+use mathlib.Core.List.{List, [], _∷_}
 use mathlib.Core.Option.{Option, none, some}
 use native.Mathlib.Omega.{arith}
 use lib.Dec.{eqb}
 use lib.ListN.{length}
 use Rattle.records.specs.Base.{if_then_else_}
 use Rattle.records.specs.Limits.{depthLimit, exprWidth, typeWidth}
-use Rattle.records.specs.Records.{typeWords}
 use Rattle.records.specs.TokenKind as token
 use Rattle.records.specs.declared.Span.{Span}
 use Rattle.records.specs.declared.numbers.ExprNo.{ExprNo}
-use Rattle.records.specs.declared.numbers.TypeNo.{TypeNo}
 use Rattle.tables.specs.Tables.{filled, beyond}
 use Rattle.tables.proofs.Filled.{filled-beyond}
 use Rattle.lex.specs.Tokens.{Token}
-use Rattle.checks.specs.declared.Fault.{Fault}
 use Rattle.checks.specs.declared.Fault.the-variants.{ParseFailed}
 use Rattle.checks.specs.Checks.{Checks}
 use Rattle.cursor.specs.declared.Cursor.{Cursor}
@@ -25,13 +22,13 @@ use Rattle.cursor.specs.declared.ParseRefusal.{ParseRefusal}
 use Rattle.cursor.specs.Tokens.{tokensLeft}
 use Rattle.cursor.specs.Cursor.{refusalAt, stepped, Ready, Reached}
 use Rattle.cursor.proofs.Reached.{reached-ready, reached-after, reached-step, reached-first}
-use Rattle.grammar.specs.Tree.{Expr, Arrow, arrowOr, Line, typesOf}
+use Rattle.grammar.specs.Tree.{Expr, Arrow, arrowOr, Line}
 use Rattle.grammar.specs.Rule.{Parsed, got, stop, goOn, isOf, oneOf, entry, choice}
 use Rattle.grammar.specs.Grammar.{names, expr, arrow, perhapsArrow, defined, declared, line}
 use Rattle.grammar.specs.Part.{partOf, weight, spanOf}
-use Rattle.grammar.specs.Recorded.{partNo, exprRecords, typeWeight, typeNo, typeRecords, linePart, exprsOf, typesInLine, lineRecord, lineTypes}
+use Rattle.grammar.specs.Recorded.{partNo, exprRecords, typeWeight, typeNo, lineRecord, lineTypes}
 use Rattle.arrows.specs.declared.ArrowAnswer.{ArrowAnswer}
-use Rattle.arrows.specs.declared.ArrowAnswer.the-variants.{Read as ReadArrow, Refused as NoArrow}
+use Rattle.arrows.specs.declared.ArrowAnswer.the-variants.{Read as ReadArrow}
 use Rattle.arrows.specs.Answers.{arrowRows, orAbsent, ArrowReads}
 use Rattle.exprs.specs.declared.ExprAnswer.{ExprAnswer}
 use Rattle.exprs.specs.declared.ExprAnswer.the-variants.{Read as ReadExpr, Refused as NoExpr}
@@ -39,7 +36,7 @@ use Rattle.exprs.specs.Answers.{exprRows, ExprReads}
 use Rattle.lines.specs.declared.LineHead.{LineHead}
 use Rattle.lines.specs.declared.LineHead.the-variants.{Defined, Declared, Refused as NoLine}
 use Rattle.lines.specs.declared.LineAnswer.{LineAnswer}
-use Rattle.lines.specs.declared.LineAnswer.the-variants.{Read, Refused}
+use Rattle.lines.specs.declared.LineAnswer.the-variants.{Refused}
 use Rattle.lines.specs.Answers.{LineReads, tailBy, lineHeadBy, lineBy}
 
 -- ---- what begins a line, for the code and for the grammar

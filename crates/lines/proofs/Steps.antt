@@ -1,7 +1,7 @@
 -- What each small function answers, by the tests that came before it. Assumes nothing.
 use Prim.Native.Nat.{ℕ, _+_}
 use mathlib.Core.Bool.{Bool, true, false}
-use mathlib.Core.Path.{_≡_, refl, sym, ap, subst, _∙_}
+use mathlib.Core.Path.{_≡_, sym, ap, _∙_}
 use mathlib.Core.List.{List, [], _∷_}
 use lib.Dec.{eqb}
 use lib.ListN.{length}
@@ -10,8 +10,6 @@ use Rattle.records.specs.Base.{if_then_else_}
 use Rattle.records.specs.TokenKind as token
 use Rattle.records.specs.declared.Span.{Span}
 use Rattle.records.specs.declared.TokenRecord.{TokenRecord}
-use Rattle.records.specs.declared.kinds.TokenKind.{TokenKind}
-use Rattle.records.specs.declared.numbers.ByteOffset.{ByteOffset}
 use Rattle.lex.specs.Tokens.{Token, recordOf}
 use Rattle.checks.specs.declared.Fault.the-variants.{ParseFailed}
 use Rattle.cursor.specs.declared.Cursor.{Cursor}

@@ -10,9 +10,7 @@ use Rattle.records.specs.Limits.{exprWidth, typeWidth}
 use Rattle.records.specs.Records.{typeWords}
 use Rattle.records.specs.TokenKind as token
 use Rattle.records.specs.declared.Span.{Span}
-use Rattle.records.specs.declared.LineRecord.{LineRecord}
 use Rattle.records.specs.declared.numbers.ExprNo.{ExprNo}
-use Rattle.records.specs.declared.numbers.TypeNo.{TypeNo}
 use Rattle.tables.specs.Tables.{filled, beyond}
 use Rattle.lex.specs.Tokens.{Token}
 use Rattle.checks.specs.declared.Fault.the-variants.{ParseFailed}

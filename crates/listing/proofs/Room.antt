@@ -11,7 +11,7 @@ use lib.ListN.{length, take, drop, length-map, length-take}
 use borrow.Author.Tests.{ltb-false}
 use Rattle.records.specs.Base.{if_then_else_}
 use Rattle.records.specs.Limits.{sourceLimit, recordLimit}
-use Rattle.records.specs.Refusals.{Refused, shortTable, longSource, rowOf}
+use Rattle.records.specs.Refusals.{shortTable, longSource, rowOf}
 use Rattle.records.specs.declared.Span.{Span}
 use Rattle.records.specs.declared.NameRecord.{NameRecord}
 use Rattle.records.specs.declared.NodeRecord.{NodeRecord}
@@ -24,8 +24,7 @@ use Rattle.lex.specs.declared.LexEnd.the-variants.{Tokens, NoToken, TooManyToke
 use Rattle.lex.specs.Tokens.{Token, lexing}
 use Rattle.lex.proofs.Tiling.{tiling, tokens-few}
 use Rattle.literals.specs.Literals.{spanText}
-use Rattle.checks.specs.Checks.{Checks, checksOf, refusedAt}
-use Rattle.cursor.specs.Cursor.{placeOfLeft}
+use Rattle.checks.specs.Checks.{Checks, checksOf}
 use Rattle.grammar.specs.Tree.{Line}
 use Rattle.grammar.specs.Part.{spanOf}
 use Rattle.grammar.specs.Places.{Each, numbered}

@@ -1,12 +1,11 @@
 -- Document 01, Listing: what is printed for a source and a jet list, as bytes; and how it is put into a lent output.
 use Prim.Native.Nat.{ℕ}
-use mathlib.Core.Bool.{Bool}
 use mathlib.Core.List.{List, [], _∷_, _++_}
 use lib.Dec.{leb}
 use lib.ListN.{length, drop}
 use Rattle.records.specs.Base.{if_then_else_}
 use Rattle.records.specs.Refusals.{rowOf}
-use Rattle.reader.specs.Reading.{Contents, Reading, read, refused}
+use Rattle.reader.specs.Reading.{Reading, read, refused}
 use Rattle.rows.specs.Rows.{listed, refusedRow}
 use Rattle.ends.specs.declared.ListAnswer.{ListAnswer}
 use Rattle.ends.specs.declared.ListAnswer.the-variants.{Listed, NoRoom}

@@ -4,14 +4,13 @@ use Prim.Native.String.{String}
 use mathlib.Core.Path.{_≡_, refl}
 use mathlib.Core.Logic.{_⊎_, inl, inr}
 use mathlib.Core.List.{List, [], _∷_}
-use native.Mathlib.Omega.{arith}
 use Rattle.records.specs.Base.{bytes}
 use Rattle.records.specs.TokenKind as token
 use Rattle.records.specs.ErrorKind as error
 use Rattle.lex.specs.Tokens.{lexing}
 use Rattle.checks.specs.Checks.{checksOf}
 use Rattle.grammar.specs.Tree as tree
-use Rattle.grammar.specs.Tree.{Ty, Arrow, Line}
+use Rattle.grammar.specs.Tree.{Arrow, Line}
 use Rattle.grammar.specs.Rule.{Parsed, got, stop}
 use Rattle.grammar.specs.Grammar.{lines}
 use Rattle.grammar.proofs.Examples as grammar

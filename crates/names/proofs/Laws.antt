@@ -8,7 +8,7 @@ use mathlib.Core.List.{List, [], _∷_, _++_, map, foldl}
 use native.Mathlib.Omega.{arith}
 use lib.ListN.{length, getD, length-append}
 use lib.Dec.{eqb}
-use borrow.Author.Tests.{eqb-true, eq-eqb, ne-eqb}
+use borrow.Author.Tests.{eqb-true, eq-eqb}
 use Rattle.records.specs.Base.{if_then_else_}
 use Rattle.lex.specs.Tokens.{Token}
 use Rattle.checks.specs.Jets.{same}

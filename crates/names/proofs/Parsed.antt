@@ -1,13 +1,13 @@
 -- What the parser gives is held: after a source is read into lines, their names and references stand in it, and there is room for
 -- a node of each line and of each part.
-use Prim.Native.Nat.{ℕ, zero, suc, _+_, _≤_}
-use mathlib.Core.Path.{_≡_, refl, sym, ap, _∙_}
+use Prim.Native.Nat.{ℕ, _+_, _≤_}
+use mathlib.Core.Path.{_≡_, refl, sym, _∙_}
 use mathlib.Core.Logic.{_⊎_, inl, inr}
 use mathlib.Core.List.{List, [], _∷_, _++_}
 use native.Mathlib.Omega.{arith}
-use lib.ListN.{length, length-append, take, drop}
+use lib.ListN.{length, length-append}
 use borrow.Author.Tests.{le-leb}
-use Rattle.records.specs.Limits.{recordLimit, lineWidth, exprWidth}
+use Rattle.records.specs.Limits.{recordLimit, exprWidth}
 use Rattle.tables.specs.Tables.{tableOf}
 use Rattle.lex.specs.Tokens.{Token}
 use Rattle.lex.specs.Tiles.{Inside}
@@ -19,14 +19,14 @@ use Rattle.grammar.specs.Derives as is
 use Rattle.grammar.specs.Derives.{IsFile}
 use Rattle.grammar.specs.Part as part
 use Rattle.grammar.specs.Part.{Part, weight}
-use Rattle.grammar.specs.Recorded.{linePart, exprsOf, linesExprs, lineRows, exprRowsOf}
+use Rattle.grammar.specs.Recorded.{linePart, exprsOf, linesExprs, exprRowsOf}
 use Rattle.grammar.specs.Places.{Each, places, filePlaces}
 use Rattle.grammar.proofs.Takes.{total, lines-exprs}
 use Rattle.grammar.proofs.Records.{each-front, each-back}
 use Rattle.grammar.proofs.Accepts.{lines-derived}
 use Rattle.grammar.proofs.Places.{Made, none, refer, own, behind, before, LineMade, line, line-made, places-few}
 use Rattle.names.specs.Uses.{Refers}
-use Rattle.names.specs.Held.{InPlace, Held, HeldLines}
+use Rattle.names.specs.Held.{InPlace, Held}
 
 -- ---- texts stand in the source
 

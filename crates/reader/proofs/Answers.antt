@@ -2,21 +2,19 @@
 use Prim.Native.Nat.{ℕ, suc, _*_, _≤_}
 use mathlib.Core.Bool.{Bool, true, false, _||_}
 use mathlib.Core.Path.{_≡_, refl, sym, ap, _∙_}
-use mathlib.Core.List.{List, [], _∷_, map, map-map}
+use mathlib.Core.List.{List, [], _∷_, map-map}
 use lib.ListN.{length, length-map}
-use native.Mathlib.Omega.{arith}
 use borrow.Author.Tests.{le-ltb}
 use lib.Dec.{ltb}
 use Rattle.records.specs.Base.{if_then_else_}
 use Rattle.records.specs.Limits.{recordLimit, tokenWidth, nameWidth, nodeWidth, errorWidth, workWidth, sourceLimit}
 use Rattle.records.specs.Records.{tokenWords, errorWords}
 use Rattle.records.specs.Refusals as refusal
-use Rattle.records.specs.declared.refusals.Refusal.{Refusal}
 use Rattle.tables.specs.Tables.{tableOf}
 use Rattle.text.specs.Check.{checkText}
 use Rattle.text.specs.declared.TextAnswer.{TextAnswer}
 use Rattle.text.specs.declared.TextAnswer.the-variants.{Valid, BadAt}
-use Rattle.lex.specs.Tokens.{Token, recordOf, rowsOf, lexing, lexAll}
+use Rattle.lex.specs.Tokens.{Token, recordOf, lexAll}
 use Rattle.lex.specs.declared.LexAnswer.{LexAnswer}
 use Rattle.lex.specs.declared.LexAnswer.the-variants.{ShortTable, LongSource, NotUtf8, Ended}
 use Rattle.checks.specs.Checks.{refusedAt}
@@ -26,13 +24,12 @@ use Rattle.grammar.specs.Tree.{Line}
 use Rattle.grammar.specs.Recorded.{lineRecords}
 use Rattle.ast.specs.Parsing as ast
 use Rattle.ast.proofs.Whole.{has-room}
-use Rattle.names.specs.Names.{Error, errorRecord, errorRows, namesOf}
+use Rattle.names.specs.Names.{errorRecord, errorRows, namesOf}
 use Rattle.walk.specs.Walk.{Node, Status}
 use Rattle.walk.specs.Nodes.{walked, nodesOf, nodeRecordsFrom, nodeRecords, nodeRows, nameRecordsFrom, nameRecords, namedRows}
 use Rattle.errors.specs.Errors.{allErrors}
-use Rattle.ends.specs.declared.ReadCounts.{ReadCounts}
 use Rattle.ends.specs.Rows.{rowOfRead, countsOfRead}
-use Rattle.reader.specs.Reading.{contents, Reading, read, refused, nothing, byTokens, byText, reading, Tables, eight, shortToReadBy, readInto, holding, afterRefusal, readTables, rowOfReading, countsOfContents, countsOfReading, faulty, refusalAnswer, answerOf}
+use Rattle.reader.specs.Reading.{contents, Reading, read, refused, nothing, byTokens, reading, Tables, eight, shortToReadBy, readInto, holding, afterRefusal, rowOfReading, countsOfContents, countsOfReading, faulty, refusalAnswer, answerOf}
 
 -- ---- an answer says the row and the counts of its reading
 

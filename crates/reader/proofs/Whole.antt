@@ -8,26 +8,24 @@ use lib.Dec.{ltb}
 use lib.ListN.{length}
 use borrow.Author.Tests.{ltb-false}
 use Rattle.records.specs.Base.{if_then_else_}
-use Rattle.records.specs.Limits.{recordLimit, lineWidth, exprWidth, nameWidth, nodeWidth, errorWidth, workWidth}
+use Rattle.records.specs.Limits.{recordLimit, nameWidth, nodeWidth, errorWidth, workWidth}
 use Rattle.tables.specs.Tables.{tableOf}
-use Rattle.lex.specs.Tokens.{Token, lexing, lexAll}
+use Rattle.lex.specs.Tokens.{Token, lexing}
 use Rattle.lex.specs.declared.LexAnswer.{LexAnswer}
 use Rattle.lex.specs.declared.LexAnswer.the-variants.{ShortTable, LongSource, NotUtf8, Ended}
-use Rattle.lex.specs.declared.LexEnd.{LexEnd}
 use Rattle.lex.specs.declared.LexEnd.the-variants.{Tokens, NoToken, TooManyTokens}
 use Rattle.lex.proofs.Tiling.{tiling, tokens-lie, tokens-few}
 use Rattle.checks.specs.Checks.{checksOf}
 use Rattle.grammar.specs.Tree.{Line}
 use Rattle.grammar.specs.Rule.{Parsed, got, stop}
-use Rattle.grammar.specs.Recorded.{lineRecords, linesExprs, linesTypes, lineRows, exprRowsOf}
+use Rattle.grammar.specs.Recorded.{lineRecords, linesExprs, linesTypes}
 use Rattle.cursor.specs.Cursor.{placeOfLeft}
 use Rattle.ast.specs.Parsing as ast
 use Rattle.ast.specs.Parsing.{tables, parsing, linesIn, tokensIn, endBy, parsedBy}
 use Rattle.ends.specs.declared.Counts.{Counts}
 use Rattle.ends.specs.declared.ParseAnswer.{ParseAnswer}
 use Rattle.ends.specs.declared.ParseAnswer.the-variants.{NotLexed, Parsed as WasParsed}
-use Rattle.ends.specs.declared.ParseEnd.{ParseEnd}
-use Rattle.ends.specs.declared.ParseEnd.the-variants.{Lines, Refused as NotParsed}
+use Rattle.ends.specs.declared.ParseEnd.the-variants.{Lines}
 use Rattle.ast.proofs.Whole.{has-room, lex-ended}
 use Rattle.names.specs.Held.{HeldLines}
 use Rattle.names.proofs.Parsed.{parsed-held}

@@ -18,7 +18,7 @@ use Rattle.records.proofs.Choices.{within-low, within-high}
 use Rattle.tables.specs.Tables.{tableOf, wordAt, written}
 use Rattle.tables.proofs.Laws.{Wide, none, more, table-word, table-replace}
 use Rattle.walk.specs.Walk.{Node}
-use Rattle.walk.specs.Nodes.{inDegree, oneIf, nodeRecord, nodeRecordsFrom, nodeRecords, nodeRows}
+use Rattle.walk.specs.Nodes.{inDegree, oneIf, nodeRecord, nodeRecordsFrom, nodeRecords}
 use Rattle.walk.proofs.Basics.{same?}
 use Rattle.resolve.specs.Words.{nodeAt, withParent, bumped, oneMore, begunWord, Counts}
 

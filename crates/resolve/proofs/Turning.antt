@@ -10,7 +10,6 @@ use lib.Dec.{eqb}
 use borrow.Author.Tests.{eqb-true, eq-eqb, ne-eqb}
 use Rattle.records.specs.Limits.{recordLimit, exprWidth, nameWidth, workWidth}
 use Rattle.records.specs.NodeKind as node
-use Rattle.records.specs.NodeKind.{PartKind}
 use Rattle.records.proofs.Choices.{and-left, and-right}
 use Rattle.tables.specs.Tables.{wordAt, written}
 use Rattle.tables.proofs.Words.{word-none}

@@ -5,16 +5,15 @@ use Rattle.records.specs.Base.{if_then_else_}
 use mathlib.Core.Path.{_≡_, refl, sym, ap, _∙_}
 use mathlib.Core.List.{List, _++_}
 use native.Mathlib.Omega.{arith}
-use lib.Dec.{leb, ltb}
+use lib.Dec.{leb}
 use lib.ListN.{length, take, drop, length-append}
 use lib.Seq.{length-take-le}
 use borrow.Author.Tests.{le-leb, lt-leb, lt-ltb, le-ltb}
 use Rattle.records.specs.Limits.{recordLimit, tokenWidth, lineWidth, exprWidth, typeWidth, nameWidth, nodeWidth, errorWidth, workWidth}
 use Rattle.ast.specs.Parsing as ast
 use Rattle.print.specs.Text.{Puts}
-use Rattle.reader.specs.Reading.{Reading, reading, eight, shortToReadBy, readInto}
+use Rattle.reader.specs.Reading.{reading, eight, shortToReadBy, readInto}
 use Rattle.listing.specs.Listing.{listing, listAnswer, listedIn}
-use Rattle.ends.specs.declared.ListAnswer.{ListAnswer}
 use Rattle.ends.specs.declared.ListAnswer.the-variants.{Listed, NoRoom}
 use Rattle.listing.proofs.Texts.{listed-all, listed-none}
 use Rattle.sheets.specs.Sheet.{jetsLimit, refusedJets, sheet, bytesOf}

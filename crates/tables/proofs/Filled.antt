@@ -1,18 +1,18 @@
 -- Laws of `filled`, over a variable width: one run of records behind another, that a filled table is `tableOf` of the records, and
 -- that the words past the records stay. Later layers cite these and not the definition. Assumes nothing.
-use Prim.Native.Nat.{ℕ, zero, suc, _+_, _*_, _-_, _≤_, _<_}
+use Prim.Native.Nat.{ℕ, suc, _+_, _*_, _-_, _≤_, _<_}
 use mathlib.Core.Bool.{Bool, true, false}
 use mathlib.Core.Path.{_≡_, refl, sym, ap, _∙_}
 use mathlib.Core.List.{List, [], _∷_, _++_, append-assoc, append-nil}
 use native.Mathlib.Omega.{arith}
-use native.Mathlib.Nat.{mul-le-mul-right, suc-mul, add-zero, add-assoc}
+use native.Mathlib.Nat.{mul-le-mul-right, suc-mul, add-zero}
 use lib.ListN.{length, take, drop, set, length-append, length-take}
 use lib.Seq.{sets, drop-set-lt}
 use Rattle.records.specs.Base.{if_then_else_, within}
 use Rattle.records.specs.Limits.{recordLimit}
 use Rattle.records.proofs.Choices.{within-low, within-high}
 use Rattle.tables.specs.Tables.{tableOf, written, filled, beyond}
-use Rattle.tables.proofs.Laws.{Wide, none, more, wide-append, table-append, table-again}
+use Rattle.tables.proofs.Laws.{Wide, none, more, wide-append, table-append}
 
 module _ (w : ℕ) where
   -- one run of records behind another

@@ -1,47 +1,40 @@
 -- Types that are read: an atom by its head, a group by its parenthesis, an operator with its operands. Assumes nothing.
-use Prim.Native.Nat.{ℕ, zero, suc, _+_, _-_, _≤_, _<_}
-use mathlib.Core.Bool.{Bool, true, false, _&&_}
+use Prim.Native.Nat.{ℕ, _+_, _-_, _≤_, _<_}
+use mathlib.Core.Bool.{true, _&&_}
 use mathlib.Core.Path.{_≡_, refl, sym, ap, subst, _∙_}
-use mathlib.Core.List.{List, [], _∷_, _++_, map, append-nil}
+use mathlib.Core.List.{List, [], _∷_, _++_, map}
 use native.Mathlib.Omega.{arith}
-use native.Mathlib.Nat.{add-zero}
-use lib.Dec.{eqb}
-use lib.ListN.{length, length-append, length-map}
-use borrow.Author.Tests.{eq-eqb, ne-eqb}
+use lib.ListN.{length, length-map}
 use Rattle.records.specs.Base.{if_then_else_}
-use Rattle.records.specs.Limits.{recordLimit, typeWidth}
+use Rattle.records.specs.Limits.{typeWidth}
 use Rattle.records.specs.Records.{typeWords}
 use Rattle.records.specs.TokenKind as token
 use Rattle.records.specs.declared.TypeRecord.{TypeRecord}
-use Rattle.records.specs.declared.numbers.TypeNo.{TypeNo}
 use Rattle.tables.specs.Tables.{written, filled, beyond}
-use Rattle.tables.proofs.Filled.{filled-append, filled-one, filled-beyond}
+use Rattle.tables.proofs.Filled.{filled-one, filled-beyond}
 use Rattle.lex.specs.Tokens.{Token}
 use Rattle.checks.specs.declared.Fault.{Fault}
 use Rattle.checks.specs.declared.Fault.the-variants.{ParseFailed}
 use Rattle.checks.specs.Checks.{checksOf}
 use Rattle.cursor.specs.declared.Cursor.{Cursor}
 use Rattle.cursor.specs.declared.ParseRefusal.{ParseRefusal}
-use Rattle.cursor.specs.declared.Expected.the-variants.{Passed, Refused as NotPassed}
 use Rattle.cursor.specs.Tokens.{tokensLeft}
-use Rattle.cursor.specs.Cursor.{refusalAt, stepped, nextNumber, expected, Ready, Reached}
+use Rattle.cursor.specs.Cursor.{refusalAt, stepped, nextNumber, Ready, Reached}
 use Rattle.cursor.proofs.Meets.{Meets, passes, refuses, meets}
 use Rattle.cursor.proofs.Steps.{next-below}
 use Rattle.cursor.proofs.Reached.{reached-ready, reached-after, reached-step, reached-first, some-left}
 use Rattle.grammar.specs.Tree as tree
-use Rattle.grammar.specs.Tree.{Ty, Op, present}
+use Rattle.grammar.specs.Tree.{Ty, present}
 use Rattle.grammar.specs.Rule.{Parsed, got, stop, Rule, goOn, choice, expect}
 use Rattle.grammar.specs.Grammar.{TypeHead, whole, group, typeHead, atomBy, atom}
 use Rattle.grammar.proofs.Takes.{type-records}
-use Rattle.grammar.specs.Recorded.{typeRecord, opKind, typeWeight, typeNo, typeRecords}
+use Rattle.grammar.specs.Recorded.{typeWeight, typeNo, typeRecords}
 use Rattle.types.specs.declared.TypeInner.{TypeInner}
 use Rattle.types.specs.declared.TypeAnswer.{TypeAnswer}
 use Rattle.types.specs.declared.TypeAnswer.the-variants.{Read, Refused}
 use Rattle.types.specs.declared.AtomHead.{AtomHead}
 use Rattle.types.specs.declared.AtomHead.the-variants.{Whole, Absent, Group, Refused as NoAtom}
-use Rattle.types.specs.declared.Op.{Op as CodeOp}
-use Rattle.types.specs.declared.Op.the-variants.{Sum as Plus, Product as Star}
-use Rattle.types.specs.Answers.{typeRows, TypeReads, typeRecordBy, finished, LeafType, HeadAt, AtomHeadReads, closedType, operatorRead, joinedTable, opInner}
+use Rattle.types.specs.Answers.{typeRows, TypeReads, typeRecordBy, finished, LeafType, HeadAt, AtomHeadReads, closedType}
 
 -- ---- sizes
 

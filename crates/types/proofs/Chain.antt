@@ -2,17 +2,16 @@
 use Prim.Native.Nat.{ℕ, zero, suc, _+_, _-_, _≤_, _<_}
 use mathlib.Core.Bool.{Bool, true, false, _&&_}
 use mathlib.Core.Path.{_≡_, refl, sym, ap, subst, _∙_}
-use mathlib.Core.List.{List, [], _∷_, _++_, map, append-nil}
+use mathlib.Core.List.{List, [], _∷_, _++_, append-nil}
 use mathlib.Core.Option.{Option, none, some}
 use native.Mathlib.Omega.{arith}
-use native.Mathlib.Nat.{add-zero}
 use native.Mathlib.Numerals.{sub-one}
 use lib.Dec.{eqb}
 use lib.ListN.{length, length-append}
 use Rattle.grammar.proofs.Takes.{atom-takes}
-use borrow.Author.Tests.{eq-eqb, ne-eqb, eqb-true, eqb-false}
+use borrow.Author.Tests.{ne-eqb}
 use Rattle.records.specs.Base.{if_then_else_}
-use Rattle.records.specs.Limits.{recordLimit, typeWidth}
+use Rattle.records.specs.Limits.{typeWidth}
 use Rattle.records.specs.Records.{typeWords}
 use Rattle.records.specs.TokenKind as token
 use Rattle.records.specs.declared.TypeRecord.{TypeRecord}
@@ -22,7 +21,6 @@ use Rattle.records.specs.declared.numbers.ExprNo.{ExprNo}
 use Rattle.tables.specs.Tables.{written, filled, beyond}
 use Rattle.tables.proofs.Filled.{filled-then, filled-one}
 use Rattle.lex.specs.Tokens.{Token}
-use Rattle.checks.specs.declared.Fault.{Fault}
 use Rattle.checks.specs.declared.Fault.the-variants.{TooDeep}
 use Rattle.checks.specs.Checks.{Checks}
 use Rattle.cursor.specs.declared.Cursor.{Cursor}
@@ -31,7 +29,7 @@ use Rattle.cursor.specs.Tokens.{tokensLeft}
 use Rattle.cursor.specs.Cursor.{refusalAt, stepped, nextNumber, Ready, Reached}
 use Rattle.cursor.proofs.Laws.{left-length}
 use Rattle.cursor.proofs.Steps.{next-below}
-use Rattle.cursor.proofs.Reached.{reached-ready, reached-go, reached-step, some-left}
+use Rattle.cursor.proofs.Reached.{reached-ready, reached-step}
 use Rattle.grammar.specs.Tree as tree
 use Rattle.grammar.specs.Tree.{Ty, Op, present}
 use Rattle.grammar.specs.Rule.{Parsed, got, stop, Rule, goOn, entry, perhaps, repeatFor, repeat}
@@ -41,7 +39,6 @@ use Rattle.types.specs.declared.TypeAnswer.{TypeAnswer}
 use Rattle.types.specs.declared.TypeAnswer.the-variants.{Read, Refused}
 use Rattle.types.specs.declared.Op.{Op as CodeOp}
 use Rattle.types.specs.declared.Op.the-variants.{Sum as Plus, Product as Star}
-use Rattle.types.specs.declared.Operator.{Operator}
 use Rattle.types.specs.declared.Operator.the-variants.{Is, Over}
 use Rattle.types.specs.Answers.{typeRows, TypeReads, typeRecordBy, finished, operatorBy, operatorAt, operatorRead, joinedTable, opInner}
 use Rattle.types.proofs.Atoms.{present-weighs, rows-weigh, rows-append, filled-stays}

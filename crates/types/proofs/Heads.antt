@@ -2,7 +2,6 @@
 use Prim.Native.Nat.{ℕ, zero, suc}
 use mathlib.Core.Path.{_≡_, refl, sym, ap, _∙_}
 use mathlib.Core.List.{List, [], _∷_}
-use native.Mathlib.Omega.{arith}
 use Rattle.records.specs.TokenKind as token
 use Rattle.records.specs.declared.TokenRecord.{TokenRecord}
 use Rattle.lex.specs.Tokens.{Token, recordOf}
@@ -16,12 +15,11 @@ use Rattle.cursor.specs.declared.Cursor.{Cursor}
 use Rattle.cursor.specs.Tokens.{tokenOf}
 use Rattle.cursor.proofs.Entries.{choice-none}
 use Rattle.grammar.specs.Tree as tree
-use Rattle.grammar.specs.Tree.{Ty, present}
-use Rattle.grammar.specs.Rule.{Parsed, got, stop, goOn, entry, choice}
-use Rattle.grammar.specs.Grammar.{whole, group, powerOf, typeHeads, typeHead}
+use Rattle.grammar.specs.Tree.{present}
+use Rattle.grammar.specs.Rule.{goOn, entry, choice}
+use Rattle.grammar.specs.Grammar.{powerOf, typeHeads, typeHead}
 use Rattle.grammar.specs.Recorded.{typeWeight, typeRecords}
-use Rattle.types.specs.declared.TypeInner.{TypeInner}
-use Rattle.types.specs.declared.TypeInner.the-variants.{Name, One, Two, TwoTwoN}
+use Rattle.types.specs.declared.TypeInner.the-variants.{Name, One, Two}
 use Rattle.types.specs.declared.AtomHead.{AtomHead}
 use Rattle.types.specs.declared.AtomHead.the-variants.{Whole, Absent, Group, Refused as NoAtom}
 use Rattle.types.specs.Answers.{typeRecordBy, LeafType, powerInner, powerHead, HeadAt}

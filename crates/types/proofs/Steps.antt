@@ -2,8 +2,6 @@
 use Prim.Native.Nat.{ℕ, zero, suc, _+_}
 use mathlib.Core.Path.{_≡_, refl, sym, ap, subst, _∙_}
 use mathlib.Core.List.{List, [], _∷_}
-use native.Mathlib.Omega.{arith}
-use lib.Dec.{eqb}
 use lib.ListN.{length}
 use borrow.Author.Tests.{eq-eqb, ne-eqb}
 use Rattle.records.specs.Base.{if_then_else_}
@@ -28,7 +26,7 @@ use Rattle.cursor.specs.declared.Expected.{Expected}
 use Rattle.cursor.specs.declared.Expected.the-variants.{Passed, Refused as NotPassed}
 use Rattle.cursor.specs.Tokens.{tokenOf, tokenAt, tokensLeft}
 use Rattle.cursor.specs.Cursor.{refusalAt, stepped, nextNumber, peeked, expected}
-use Rattle.cursor.proofs.Laws.{left-none, left-next, token-again}
+use Rattle.cursor.proofs.Laws.{left-next, token-again}
 use Rattle.cursor.proofs.Reached.{some-left}
 use Rattle.cursor.proofs.Steps.{ahead-end, ahead-next}
 use Rattle.types.specs.declared.TypeInner.{TypeInner}

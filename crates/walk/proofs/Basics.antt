@@ -1,18 +1,18 @@
 -- Facts of statuses, of lists of nodes, and of what the walk never undoes.
 use Prim.Native.Nat.{ℕ, zero, suc, _+_, _≤_, _<_}
 use mathlib.Core.Path.{_≡_, refl, sym, ap, subst, _∙_}
-use mathlib.Core.Bool.{Bool, true, false, _&&_, not}
+use mathlib.Core.Bool.{Bool, true, false, _&&_}
 use mathlib.Core.Logic.{_⊎_, inl, inr, _≢_}
 use mathlib.Core.List.{List, [], _∷_, _++_, append-assoc, append-nil}
 use native.Mathlib.Omega.{arith}
 use native.Mathlib.Decide.{ℕ-discrete}
 use lib.ListN.{length, length-append}
-use lib.Dec.{leb, eqb, T, leb→le, le→leb, eqb→eq, eqb-refl, not-T}
+use lib.Dec.{leb, eqb, T, leb→le, le→leb, eqb→eq, eqb-refl}
 use Rattle.records.specs.Base.{if_then_else_}
 use Rattle.records.specs.NodeKind as node
 use Rattle.records.specs.NodeKind.{PartKind}
-use Rattle.walk.specs.Walk.{NodeHead, Own, ownKind, Tree, none, part, refer, Node, Status, fresh, begun, finished, State, Walked, marked, mark, finish, resolve, isFresh, walk}
-use Rattle.walk.specs.Walk.{Legal, ready, whole, wholeIf, visitIn, visit, namesTo, unwalked, final}
+use Rattle.walk.specs.Walk.{Tree, none, part, refer, Node, Status, fresh, begun, finished, State, marked, mark, finish, isFresh, walk}
+use Rattle.walk.specs.Walk.{Legal, ready, whole, wholeIf, visitIn}
 
 -- ---- tests
 

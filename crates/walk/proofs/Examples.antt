@@ -3,7 +3,6 @@ use Prim.Native.Nat.{ℕ}
 use Prim.Native.String.{String}
 use mathlib.Core.Path.{_≡_, refl}
 use mathlib.Core.List.{List, [], _∷_}
-use Rattle.records.specs.Base.{bytes}
 use Rattle.records.specs.NodeKind as node
 use Rattle.names.proofs.Examples as names
 use Rattle.names.proofs.Examples.{linesOf}

@@ -1,14 +1,14 @@
 -- The bound on how deep names are begun inside names never matters, and each legal name is finished at the end.
 use Prim.Native.Nat.{ℕ, zero, suc, _+_, _≤_, _<_}
-use mathlib.Core.Path.{_≡_, refl, sym, ap, subst, _∙_}
+use mathlib.Core.Path.{_≡_, refl, sym, ap, _∙_}
 use mathlib.Core.Bool.{Bool, true, false}
 use mathlib.Core.Logic.{_⊎_, inl, inr, _≢_}
-use mathlib.Core.List.{List, [], _∷_, _++_}
+use mathlib.Core.List.{[], _∷_, _++_}
 use native.Mathlib.Omega.{arith}
-use Rattle.walk.specs.Walk.{NodeHead, Own, ownKind, Tree, none, part, refer, Node, Status, fresh, begun, finished, State, Walked, marked, mark, finish, resolve, isFresh, walk}
+use Rattle.walk.specs.Walk.{Tree, none, part, refer, Status, fresh, begun, finished, State, Walked, marked, mark, walk}
 use Rattle.walk.specs.Walk.{ready, whole, wholeIf, visitIn, visit, namesTo, unwalked, final}
-use Rattle.walk.proofs.Basics.{same?, marked-same, marked-other, not-fresh-done, not-fresh-begun, not-begun-done}
-use Rattle.walk.proofs.Basics.{Kept, Grow, kept-fresh, kept-done, kept-begun, grow-refl, grow-trans, Grows, walk-grow, ready-true, ready-intro, whole-grow, visit-in-grow}
+use Rattle.walk.proofs.Basics.{same?, marked-same, marked-other, not-fresh-begun}
+use Rattle.walk.proofs.Basics.{Grow, kept-fresh, kept-done, kept-begun, grow-refl, grow-trans, Grows, walk-grow, ready-true, ready-intro, visit-in-grow}
 use Rattle.walk.specs.Walk.{Legal}
 use Rattle.walk.specs.Machine.{share, freshSum}
 

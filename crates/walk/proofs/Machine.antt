@@ -2,17 +2,17 @@
 -- pass the load. So the machine ends, with the recursive walk.
 use Prim.Native.Nat.{ℕ, zero, suc, _+_, _≤_, _<_}
 use mathlib.Core.Path.{_≡_, refl, sym, ap, subst, _∙_}
-use mathlib.Core.Bool.{Bool, true, false, cond}
+use mathlib.Core.Bool.{Bool, true, false}
 use mathlib.Core.Logic.{_⊎_, inl, inr, _≢_}
 use mathlib.Core.List.{List, [], _∷_, _++_}
 use native.Mathlib.Omega.{arith}
 use lib.ListN.{length}
-use Rattle.walk.specs.Walk.{NodeHead, Own, ownKind, Tree, none, part, refer, Node, Status, fresh, begun, finished, State, Walked, marked, mark, finish, resolve, walk}
-use Rattle.walk.specs.Walk.{ready, whole, wholeIf, visit, namesTo}
+use Rattle.walk.specs.Walk.{Tree, none, part, refer, Status, fresh, begun, finished, State, Walked, marked, mark, finish, resolve, walk}
+use Rattle.walk.specs.Walk.{ready, whole, wholeIf, visit}
 use Rattle.walk.proofs.Basics.{same?, marked-same, marked-other, not-fresh-done, length-snoc, ready-true}
 use Rattle.walk.proofs.Fuel.{sum-mono, sum-begin, visit-unroll}
 use Rattle.walk.specs.Walk.{Legal}
-use Rattle.walk.specs.Machine.{Frame, waitRight, waitLeft, waitName, Config, down, up, nodeOf, size, cost, framesSize, framesCost, freshSum, resume, meaning, atReference, step, freshSize, stepsLeft, load, Running, NamesLegal, PartWaits, Absent, Fit}
+use Rattle.walk.specs.Machine.{Frame, waitRight, waitLeft, waitName, Config, down, up, nodeOf, size, cost, framesSize, framesCost, freshSum, resume, meaning, atReference, step, stepsLeft, load, Running, NamesLegal, PartWaits, Absent, Fit}
 
 pub stack-size : (ks : List Frame) → length ks ≤ framesSize ks
 unfolding framesSize

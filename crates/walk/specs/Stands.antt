@@ -1,20 +1,17 @@
 -- Which part a node stands for. proofs/: each node stands for a part, each part of each name's tree has a node, and there are as
 -- many nodes as parts.
-use Prim.Native.Nat.{ℕ, zero, suc, _+_, _≤_}
+use Prim.Native.Nat.{ℕ, _+_, _≤_}
 use mathlib.Core.Path.{_≡_}
 use mathlib.Core.Logic.{_⊎_}
 use mathlib.Core.List.{List, [], _∷_, map}
 use mathlib.Core.Option.{Option, none as no, some}
-use lib.ListN.{length}
 use Rattle.records.specs.NodeKind as node
 use Rattle.lex.specs.Tokens.{Token}
 use Rattle.grammar.specs.Tree.{Expr, Line}
 use Rattle.grammar.specs.Part.{partOf, weight}
-use Rattle.grammar.specs.Places.{Each, numbered}
 use Rattle.names.specs.Names.{namesOf, firstExpression}
-use Rattle.walk.specs.Walk.{NodeHead, Own, ownKind, Tree, none, part, refer, Node, Legal}
-use Rattle.walk.specs.Trees.{treeOf, recordNo}
-use Rattle.walk.specs.Nodes.{nodesOf}
+use Rattle.walk.specs.Walk.{NodeHead, ownKind, Tree, none, part, refer, Node, Legal}
+use Rattle.walk.specs.Trees.{recordNo}
 
 -- t is the tree u or a part of it
 unfoldable pub PartOf : Tree → Tree → Type 0

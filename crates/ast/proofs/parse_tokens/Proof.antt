@@ -1,7 +1,7 @@
 -- `ast::parse_tokens` meets its contract. The loop's invariant: `Going`, for all tables that were cleared into those where the loop
 -- begins. Assumes nothing.
 use Prim.Native.Nat.{ℕ, _-_, _≤_}
-use mathlib.Core.Path.{_≡_, refl, sym, _∙_}
+use mathlib.Core.Path.{_≡_, refl, _∙_}
 use mathlib.Core.List.{List, []}
 use native.Mathlib.Omega.{arith}
 use lib.ListN.{length}

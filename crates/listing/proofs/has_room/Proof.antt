@@ -1,5 +1,4 @@
 -- `listing::has_room` meets its contract.
-use mathlib.Core.List.{List}
 use mathlib.Core.Path.{ap}
 use Prim.Native.Nat.{ℕ}
 use lib.Dec.{leb}

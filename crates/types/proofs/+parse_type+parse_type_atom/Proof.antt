@@ -1,6 +1,6 @@
 -- `types::parse_type` and `types::parse_type_atom` meet their contracts. The loop's invariant: what goes on from where the loop began goes on now. Assumes nothing.
 use Prim.Native.Nat.{_+_, _-_}
-use mathlib.Core.Path.{_≡_, refl, sym, ap, subst, _∙_}
+use mathlib.Core.Path.{_≡_, refl, sym, _∙_}
 use mathlib.Core.List.{List}
 use native.Mathlib.Omega.{arith}
 use lib.ListN.{length}
