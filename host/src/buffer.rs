@@ -39,6 +39,8 @@ pub struct Buffer<const N: usize> {
     starts: [usize; N],
     /// The words of the buffer before each call: none is 0, and no two are the same.
     pattern: Vec<u32>,
+    /// As many zeros as the longest table has words.
+    zeros: Vec<u32>,
     held: Vec<u32>,
 }
 
@@ -58,6 +60,7 @@ impl<const N: usize> Buffer<N> {
             names,
             words,
             starts,
+            zeros: vec![0; words.into_iter().max().unwrap_or(0)],
             held: pattern.clone(),
             pattern,
         }
@@ -106,7 +109,7 @@ impl<const N: usize> Buffer<N> {
             );
             let records = tables.get(number).map_or(&[][..], Vec::as_slice);
             let (used, unused) = self.held[start..end].split_at(records.len());
-            let settled = used == records && unused.iter().all(|&word| word == 0);
+            let settled = used == records && *unused == self.zeros[..unused.len()];
             if !settled || self.held[kept..start] != self.pattern[kept..start] {
                 return false;
             }

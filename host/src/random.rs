@@ -1,5 +1,10 @@
 //! Numbers that look random and follow from a seed alone.
 
+/// A seed made of two numbers. For one of them, different others give different seeds.
+pub fn mixed(seed: u64, other: u64) -> u64 {
+    Random::new(Random::new(seed).number() ^ other).number()
+}
+
 /// A splitmix64 generator: the same seed gives the same numbers everywhere.
 #[derive(Clone, Debug)]
 pub struct Random {
@@ -59,13 +64,20 @@ impl Random {
 
 #[cfg(test)]
 mod tests {
-    use super::Random;
+    use super::{mixed, Random};
+    use std::collections::HashSet;
 
     #[test]
     fn the_same_seed_gives_the_same_numbers() {
         let (mut one, mut two) = (Random::new(7), Random::new(7));
         assert!((0..1000).all(|_| one.number() == two.number()));
         assert_ne!(Random::new(7).number(), Random::new(8).number());
+    }
+
+    #[test]
+    fn no_two_pairs_of_small_numbers_have_one_seed() {
+        let pairs = (0..1000).flat_map(|seed| (0..100).map(move |part| mixed(seed, part)));
+        assert_eq!(pairs.collect::<HashSet<u64>>().len(), 100_000);
     }
 
     #[test]

@@ -12,6 +12,7 @@ mod lent;
 mod limits;
 mod lines;
 mod listings;
+mod many;
 mod met;
 #[cfg(test)]
 mod mistakes;
@@ -28,6 +29,7 @@ mod types;
 
 pub use callee::{Callee, Library};
 pub use departures::Departures;
+pub use many::{compare_files, Many};
 pub use met::Met;
 pub use tallies::Tallies;
 

@@ -4,6 +4,7 @@ use std::sync::atomic::{AtomicUsize, Ordering};
 use std::sync::Mutex;
 use std::thread;
 
+use crate::random::mixed;
 use crate::scale::Scale;
 
 /// What a comparison has counted, so that its pieces may be put together.
@@ -39,7 +40,7 @@ impl Piece {
 
     /// The seed of this piece of a part that has a seed of its own.
     pub fn seed(&self, part: u64) -> u64 {
-        self.scale.seed ^ part ^ ((self.number as u64) << 40)
+        mixed(mixed(self.scale.seed, part), self.number as u64)
     }
 
     /// Whether this piece takes item `index` of a list.

@@ -2,7 +2,7 @@
 
 use crate::expected::{expected, listing, Expected, ERRORS, NAMES, WIDTHS};
 use crate::generate::{damage_bytes, generate};
-use crate::random::Random;
+use crate::random::{mixed, Random};
 use crate::scale::Scale;
 use crate::tally::{answer, Tally};
 use crate::zaghdurem::{self, Counts, Expression, ExpressionNumber, Line, Name, NameNumber, Node};
@@ -26,7 +26,7 @@ struct Told {
 
 /// Compares readings and listings of generated files, whole and damaged.
 pub fn compare(scale: &Scale, tally: &mut Tally) {
-    let mut random = Random::new(scale.seed ^ 0x3A9);
+    let mut random = Random::new(mixed(scale.seed, 0x3A9));
     let mut tables = Tables::new();
     oracle::with_stack(|| {
         for _ in 0..scale.count / 2 {

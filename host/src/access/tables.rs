@@ -3,7 +3,7 @@
 use super::{inputs, reference};
 use crate::guarded::Guarded;
 use crate::library;
-use crate::random::Random;
+use crate::random::{mixed, Random};
 use crate::scale::Scale;
 use crate::tables::RULES;
 use crate::tally::{answer, Tally};
@@ -53,7 +53,7 @@ fn bytes(tables: &[&[u32]]) -> Vec<u8> {
 
 /// The roots of tables of any words: the first behind any name, and the whole chain.
 pub fn roots(scale: &Scale, tally: &mut Tally) {
-    let mut random = Random::new(scale.seed ^ 0xACC1);
+    let mut random = Random::new(mixed(scale.seed, 0xACC1));
     let mut memory = Memory::new();
     for _ in 0..scale.count {
         let (name_size, node_size) = (inputs::size(&mut random), inputs::size(&mut random));
@@ -105,7 +105,7 @@ impl Tables<'_> {
 
 /// The texts of names over tables of any words and sources of any length.
 pub fn texts(scale: &Scale, tally: &mut Tally) {
-    let mut random = Random::new(scale.seed ^ 0xACC2);
+    let mut random = Random::new(mixed(scale.seed, 0xACC2));
     let mut memory = Memory::new();
     let longest = vec![b'a'; RULES.source_bytes as usize + 8];
     for _ in 0..scale.count {

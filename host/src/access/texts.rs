@@ -4,7 +4,7 @@ use super::{inputs, reference};
 use crate::guarded::{Against, Guarded};
 use crate::library;
 use crate::parser::reference::literal_byte;
-use crate::random::Random;
+use crate::random::{mixed, Random};
 use crate::scale::Scale;
 use crate::tables::RULES;
 use crate::tally::{answer, Tally};
@@ -46,7 +46,7 @@ pub fn short_spans(_: &Scale, tally: &mut Tally) {
 
 /// Spans of sources of any length.
 pub fn any_spans(scale: &Scale, tally: &mut Tally) {
-    let mut random = Random::new(scale.seed ^ 0xACC3);
+    let mut random = Random::new(mixed(scale.seed, 0xACC3));
     let most = RULES.source_bytes as usize + 8;
     let (mut memory, bytes) = (Guarded::new(most), vec![b'a'; most]);
     for _ in 0..scale.count {
@@ -76,7 +76,7 @@ fn any_span(length: usize, random: &mut Random) -> (u32, u32) {
 
 /// Bytes of literals at any spans of short sources, most of them on a literal or about it.
 pub fn literals(scale: &Scale, tally: &mut Tally) {
-    let mut random = Random::new(scale.seed ^ 0xACC4);
+    let mut random = Random::new(mixed(scale.seed, 0xACC4));
     let mut memory = Guarded::new(SHORT);
     for _ in 0..scale.count {
         let (source, literal) = with_literal(&mut random);

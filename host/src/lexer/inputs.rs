@@ -3,7 +3,7 @@
 use super::reference::WORDS;
 use super::{limits, texts, Comparison};
 use crate::generate::{byte_soup, damage_bytes, generate, token_soup};
-use crate::random::Random;
+use crate::random::{mixed, Random};
 use crate::scale::Scale;
 
 /// A part of the comparison: its name, and what it compares.
@@ -55,7 +55,7 @@ fn four_letters(scale: &Scale, comparison: &mut Comparison) {
     if !scale.quick {
         return all_strings(4, comparison);
     }
-    let mut random = Random::new(scale.seed ^ 0x4444);
+    let mut random = Random::new(mixed(scale.seed, 0x4444));
     for _ in 0..scale.count * SHORT {
         comparison.compare(letters(&LETTERS, 4, &mut random).as_bytes());
     }
@@ -65,7 +65,7 @@ fn four_letters(scale: &Scale, comparison: &mut Comparison) {
 fn more_letters(scale: &Scale, comparison: &mut Comparison) {
     let lexes = |letter: &&str| oracle::lex(letter).bad.is_none();
     let lexing: Vec<&str> = LETTERS.into_iter().filter(lexes).collect();
-    let mut random = Random::new(scale.seed ^ 0x5555);
+    let mut random = Random::new(mixed(scale.seed, 0x5555));
     for _ in 0..scale.count * SHORT / 4 {
         for set in [&LETTERS[..], &lexing] {
             let length = random.between(5, 24);
@@ -100,7 +100,7 @@ fn all_pairs(_: &Scale, comparison: &mut Comparison) {
 }
 
 fn soups(scale: &Scale, comparison: &mut Comparison) {
-    let mut random = Random::new(scale.seed ^ 0x5009);
+    let mut random = Random::new(mixed(scale.seed, 0x5009));
     for _ in 0..scale.count {
         comparison.compare(&token_soup(&mut random).source);
         comparison.compare(&byte_soup(&mut random).source);
@@ -109,7 +109,7 @@ fn soups(scale: &Scale, comparison: &mut Comparison) {
 
 /// Files of every family and a damaged copy of each; some also with a table that is too short.
 fn generated_files(scale: &Scale, comparison: &mut Comparison) {
-    let mut random = Random::new(scale.seed ^ 0x1E8);
+    let mut random = Random::new(mixed(scale.seed, 0x1E8));
     for _ in 0..scale.count {
         let file = generate(&mut random);
         comparison.files[file.shape as usize] += 1;

@@ -55,22 +55,36 @@ const fn part(
     }
 }
 
-/// Files of every family and a damaged copy of each; some also with tables just long enough, and with one too short.
+/// Files of every family and a damaged copy of each.
 fn any_files(piece: &Piece, comparison: &mut Comparison) {
     let mut random = Random::new(piece.seed(0x9A26));
     for _ in 0..piece.share(piece.scale.count) {
-        let file = generate(&mut random);
-        comparison.met.made[file.shape as usize] += 1;
-        let (mut source, list) = (file.source, List::new(&file.jets));
-        let mut lents = vec![ROOM];
-        if random.chance(1, 8) {
-            let mut short = WORDS;
-            let table = random.below(short.len());
-            short[table] = random.below(WORDS[table]);
-            lents.extend([WORDS, short]);
-        }
+        any_file(&mut random, comparison, |_, _| true);
+    }
+}
+
+/// Makes a file of any family and a damaged copy of it, and compares those that are wanted; some also with tables just
+/// long enough, and with one too short.
+pub(super) fn any_file(
+    random: &mut Random,
+    comparison: &mut Comparison,
+    mut wanted: impl FnMut(&[u8], &List) -> bool,
+) {
+    let file = generate(random);
+    comparison.met.made[file.shape as usize] += 1;
+    let (mut source, list) = (file.source, List::new(&file.jets));
+    let mut lents = vec![ROOM];
+    if random.chance(1, 8) {
+        let mut short = WORDS;
+        let table = random.below(short.len());
+        short[table] = random.below(WORDS[table]);
+        lents.extend([WORDS, short]);
+    }
+    if wanted(&source, &list) {
         comparison.compare_lent(&source, &list, &lents);
-        damage_bytes(&mut source, &mut random);
+    }
+    damage_bytes(&mut source, random);
+    if wanted(&source, &list) {
         comparison.compare(&source, &list);
     }
 }

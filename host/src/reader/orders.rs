@@ -3,7 +3,7 @@
 use super::lines::FORMS;
 use super::Comparison;
 use crate::list::List;
-use crate::random::Random;
+use crate::random::{mixed, Random};
 use crate::run::Piece;
 
 /// Files whose lines are set apart by `|`: trees, loops of every length, uses in CMRs, illegal, repeated and typed lines.
@@ -32,7 +32,7 @@ const INPUTS_FOR_A_FILE: usize = 1_000;
 pub fn all_orders(piece: &Piece, comparison: &mut Comparison) {
     let list = List::new(b"");
     let mut files: Vec<Vec<String>> = FILES.iter().map(|file| split(file)).collect();
-    let mut random = Random::new(piece.scale.seed ^ 0x0D);
+    let mut random = Random::new(mixed(piece.scale.seed, 0x0D));
     for _ in 0..piece.scale.count / INPUTS_FOR_A_FILE {
         let any = |_| random.text(&FORMS);
         files.push((0..LINES).map(any).collect());

@@ -2,7 +2,7 @@
 
 use super::{compare_text, Tallies, EVERY_OFFSET};
 use crate::generate::{damage_bytes, generate};
-use crate::random::Random;
+use crate::random::{mixed, Random};
 use crate::scale::Scale;
 
 /// A part of the comparison: its name, and what it compares.
@@ -93,7 +93,7 @@ fn single_characters(scale: &Scale, tallies: &mut Tallies) {
 }
 
 fn random_bytes(scale: &Scale, tallies: &mut Tallies) {
-    let mut random = Random::new(scale.seed ^ 0xB17E);
+    let mut random = Random::new(mixed(scale.seed, 0xB17E));
     for _ in 0..scale.count {
         let length = short_length(&mut random);
         let telling = random.chance(1, 2);
@@ -112,7 +112,7 @@ fn random_bytes(scale: &Scale, tallies: &mut Tallies) {
 
 /// Valid text, and the same text with a few bytes changed.
 fn random_characters(scale: &Scale, tallies: &mut Tallies) {
-    let mut random = Random::new(scale.seed ^ 0xC4A2);
+    let mut random = Random::new(mixed(scale.seed, 0xC4A2));
     for _ in 0..scale.count {
         let length = short_length(&mut random);
         let mut source = text_of_length(length, &mut random);
@@ -125,7 +125,7 @@ fn random_characters(scale: &Scale, tallies: &mut Tallies) {
 }
 
 fn generated_files(scale: &Scale, tallies: &mut Tallies) {
-    let mut random = Random::new(scale.seed);
+    let mut random = Random::new(mixed(scale.seed, 0xF11E));
     for _ in 0..scale.count {
         let file = generate(&mut random);
         tallies.files[file.shape as usize] += 1;
@@ -135,7 +135,7 @@ fn generated_files(scale: &Scale, tallies: &mut Tallies) {
 
 /// Texts of many sizes up to 1 MiB, of one and of all character lengths, whole and damaged.
 fn long_texts(scale: &Scale, tallies: &mut Tallies) {
-    let mut random = Random::new(scale.seed ^ 0x1049);
+    let mut random = Random::new(mixed(scale.seed, 0x1049));
     let sizes = [
         201,
         1_023,
@@ -200,7 +200,7 @@ fn any_character(random: &mut Random) -> char {
 #[cfg(test)]
 mod tests {
     use super::{text_of_length, TELLING};
-    use crate::random::Random;
+    use crate::random::{mixed, Random};
 
     #[test]
     fn made_text_is_valid_and_as_long_as_asked() {

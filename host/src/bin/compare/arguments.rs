@@ -3,26 +3,37 @@
 use std::ops::RangeInclusive;
 use zaghdurem_host::scale::Scale;
 
-pub const USAGE: &str = "usage: compare [quick] [--seed N | --seeds FROM..TO] [--count N]; FROM and TO are both compared";
+pub const USAGE: &str = "usage: compare [quick] [--seed N | --seeds FROM..TO] [--count N]; FROM and TO are both compared
+       compare --files N [--seed N]";
 
-/// One run with all its lines, or one for each seed of a range with a line each.
+/// One run with all its lines, one for each seed of a range with a line each, or so many different files through the reader.
 #[derive(Debug)]
 pub enum Asked {
     One(Scale),
     Each(Scale, RangeInclusive<u64>),
+    Files { seed: u64, files: usize },
 }
 
 /// Reads the arguments; what is said about wrong ones is the error.
 pub fn asked(mut arguments: impl Iterator<Item = String>) -> Result<Asked, String> {
-    let (mut quick, mut seed, mut seeds, mut count) = (false, None, None, None);
+    let (mut quick, mut seed, mut seeds) = (false, None, None);
+    let (mut count, mut files) = (None, None);
     while let Some(argument) = arguments.next() {
         match argument.as_str() {
             "quick" => quick = true,
             "--seed" => seed = Some(number(&argument, arguments.next())?),
             "--seeds" => seeds = Some(range(&argument, arguments.next())?),
             "--count" => count = Some(number(&argument, arguments.next())? as usize),
+            "--files" => files = Some(number(&argument, arguments.next())? as usize),
             other => return Err(format!("not understood: {other}")),
         }
+    }
+    if let Some(files) = files {
+        if quick || seeds.is_some() || count.is_some() {
+            return Err("--files goes with --seed alone".to_owned());
+        }
+        let seed = seed.unwrap_or(1);
+        return Ok(Asked::Files { seed, files });
     }
     let usual = if quick {
         Scale::QUICK_COUNT
@@ -78,6 +89,8 @@ mod tests {
         };
         assert_eq!((scale.quick, scale.count, seeds), (true, 9, 3..=5));
         assert!(matches!(of(""), Ok(Asked::One(Scale { seed: 1, .. }))));
+        let files = of("--seed 3 --files 9");
+        assert!(matches!(files, Ok(Asked::Files { seed: 3, files: 9 })));
     }
 
     #[test]
@@ -91,6 +104,10 @@ mod tests {
             "--seeds 3..x",
             "--seeds 5..3",
             "--seed 1 --seeds 1..2",
+            "--files",
+            "quick --files 9",
+            "--files 9 --seeds 1..2",
+            "--files 9 --count 1",
         ] {
             assert!(of(wrong).is_err(), "{wrong}");
         }

@@ -1,6 +1,7 @@
-//! Compares the library with the Rust, with one seed or with each of a range.
+//! Compares the library with the Rust, with one seed, with each of a range, or over so many different files.
 
 mod arguments;
+mod files;
 mod outcome;
 mod parts;
 mod seeds;
@@ -31,6 +32,7 @@ fn main() -> ExitCode {
                 parts::compare_all(&Scale { seed, ..scale }, Log::Left)
             })
         }
+        Asked::Files { seed, files } => files::compare(seed, files),
     };
     if agreed {
         ExitCode::SUCCESS
