@@ -1,4 +1,5 @@
 pub mod Words
+pub mod Zeros
 pub mod Laws
 pub mod Filled
 pub mod Reading

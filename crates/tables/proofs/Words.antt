@@ -2,18 +2,18 @@
 use Prim.Native.Nat.{ℕ, suc, min, _+_, _*_, _-_, _≤_, _<_, _^_}
 use mathlib.Core.Bool.{Bool, true, false}
 use mathlib.Core.Path.{_≡_, refl, sym, _∙_}
-use mathlib.Core.List.{List, [], _++_, append-assoc, append-nil}
+use mathlib.Core.List.{List}
 use native.Mathlib.Omega.{arith}
 use native.Mathlib.Numerals.{add-one}
-use native.Mathlib.Nat.{mul-le-mul-right, add-zero, le-refl}
+use native.Mathlib.Nat.{mul-le-mul-right, add-zero}
 use lib.Dec.{leb}
 use borrow.Author.Tests.{leb-true, leb-false}
-use lib.ListN.{length, getD, take, drop, set, replicate, length-take, length-drop, length-append, length-replicate, replicate-append-replicate, drop-of-length-le, List·getD-eq-default}
-use lib.Seq.{sets, drop-cons, getD-take, getD-drop, take-all, take-at, take-length}
+use lib.ListN.{length, getD, take, drop, set, length-take, drop-of-length-le, List·getD-eq-default}
+use lib.Seq.{sets, drop-cons, getD-take, getD-drop, take-all, take-length}
 use Rattle.records.proofs.Choices.{within-high}
 use Rattle.records.specs.Base.{within}
 use Rattle.records.specs.Limits.{recordLimit}
-use Rattle.tables.specs.Tables.{joined, tableOf, recordAt, wordAt, written}
+use Rattle.tables.specs.Tables.{recordAt, wordAt, written}
 
 -- ---- numbers
 
@@ -84,23 +84,3 @@ module _ (t₀ ws : List ℕ) (at count : ℕ) (h : count ≤ length ws) where
   storing-done t j k s =
       let l : length (take count ws) ≤ j = simp length-take (omega arith) in
       sym (s ∙ rw (drop-of-length-le (take count ws) l))
-
--- ---- clearing
-
--- zeros to the end of the records, or of the table
-pub cleared : (w i : ℕ) (t : List ℕ) → i ≡ min (recordLimit * w) (length t) → replicate i 0 ++ drop i t ≡ take (length t) (tableOf w [] t)
-unfolding tableOf joined
-cleared w i t e = go (leb (recordLimit * w) (length t)) refl
-  where
-    go : (b : Bool) → leb (recordLimit * w) (length t) ≡ b → replicate i 0 ++ drop i t ≡ take (length t) (replicate (recordLimit * w - 0) 0 ++ drop (recordLimit * w) t)
-    go true k =
-        let h : recordLimit * w ≤ length t = leb-true _ _ k in
-        let z : recordLimit * w - 0 ≡ i = omega arith in
-        let y : recordLimit * w ≡ i = omega arith in
-        rw (z, y) (sym (take-all (length t) _ (simp (length-append, length-replicate, length-drop) (omega arith))))
-    go false k =
-        let h : length t < recordLimit * w = leb-false _ _ k in
-        let y : i ≡ length t = omega arith in
-        let n : recordLimit * w - 0 ≡ length t + (recordLimit * w - length t) = omega arith in
-        rw (y, n, ← replicate-append-replicate {A = ℕ} (length t) (recordLimit * w - length t) 0, append-assoc, drop-of-length-le t (le-refl (length t)), append-nil)
-        (sym (take-at (replicate (length t) 0) _ (length t) (length-replicate (length t) 0)))

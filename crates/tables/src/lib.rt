@@ -8,6 +8,7 @@ ghost use Rattle.records.specs.Limits.{recordLimit};
 ghost use lib.ListN.{length, take, getD, set};
 ghost use lib.Seq.{sets};
 ghost use Rattle.tables.specs.Tables.{tableOf, wordAt, written};
+ghost use Rattle.tables.specs.Zeros.{allZero, zeroed};
 use records::limits::Limits;
 
 fn wide(x: u32) -> usize
@@ -93,14 +94,59 @@ pub fn write(table: &mut [u32], width: u32, number: u32, words: &[u32])
     }
 }
 
-// Sets the records of a table to zero.
+// The part of a table that is looked at before it is set to zero.
+struct Block;
+
+impl Block {
+    // Words of a block. The look at so few becomes code with no loop, once for all tables; at 256 it came at every call.
+    const WORDS: usize = 64;
+}
+
+// Whether all words are zero. It looks at every one: a loop with no early exit takes many words at a time.
+fn is_zero(words: &[u32]) -> bool
+    ensures { λ r. ⌜ r ≡ allZero (now (words .entry)) ⌝ }
+{
+    let mut seen: u32 = 0;
+    let mut i: usize = 0;
+    while i < words.len() {
+        seen = seen | words[i];
+        i += 1;
+    }
+    seen == 0
+}
+
+// Sets the words from `from` up to `to` to zero.
+fn zero(table: &mut [u32], from: usize, to: usize)
+    requires { ⌜ to ≤ length (now table) ⌝ }
+    ensures { λ _. ⌜ now (table .exit) ≡ zeroed (now (table .entry)) from to ⌝ }
+{
+    let mut i = from;
+    while i < to {
+        table[i] = 0;
+        i += 1;
+    }
+}
+
+// The same, but words that are zero already are only read.
+fn zero_again(table: &mut [u32], from: usize, to: usize)
+    requires { ⌜ (from ≤ to) × (to ≤ length (now table)) ⌝ }
+    ensures { λ _. ⌜ now (table .exit) ≡ zeroed (now (table .entry)) from to ⌝ }
+{
+    if !is_zero(&table[from..to]) {
+        zero(table, from, to);
+    }
+}
+
+// Sets the records of a table to zero, block by block, since most of a table that is lent again is zero already. The blocks
+// are of one length, so that the compiler knows it; what is left behind the last one is set without a look.
 pub fn clear(table: &mut [u32], width: u32)
     ensures { λ _. ⌜ now (table .exit) ≡ take (length (now (table .entry))) (tableOf width [] (now (table .entry))) ⌝ }
 {
     let count = lesser(Limits::RECORDS as usize * wide(width), table.len());
     let mut i: usize = 0;
-    while i < count {
-        table[i] = 0;
-        i += 1;
+    while Block::WORDS <= count - i {
+        zero_again(table, i, i + Block::WORDS);
+        i += Block::WORDS;
     }
+    zero(table, i, count);
 }
