@@ -19,6 +19,9 @@ pub const LEAVES: usize = 204;
 pub const SMALL: &str = "main := pair a iden\na := unit\n";
 pub const SMALL_HALF: &str = "a := take iden\n";
 
+/// A small file of as many tokens that is refused at its end.
+pub const SMALL_REFUSED: &str = "main := pair a iden\na := take\n";
+
 /// A line with hardly any white space: two bytes of three begin a token.
 pub const DENSE: &str = "a:=pair(take b)(c):1*2->(2+1)*_\n";
 

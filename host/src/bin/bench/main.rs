@@ -14,5 +14,6 @@ fn main() {
         println!("not built for release: these ratios say nothing");
     }
     read::print_table();
+    read::print_refused();
     layers::print_lines();
 }

@@ -68,6 +68,24 @@ pub fn print_table() {
     println!();
 }
 
+/// Times both on a small file that is refused, whose tables are all zero afterwards, and prints a line.
+pub fn print_refused() {
+    let (source, jets) = (SMALL_REFUSED, oracle::Jets::new(b""));
+    let mut tables = Tables::new();
+    let [library, rust] = medians([
+        work(|| zaghdurem::read(black_box(source.as_bytes()), b"", &mut tables).is_err()),
+        work(|| oracle::run(black_box(source), &jets)),
+    ]);
+    println!(
+        "read, a small file that is refused: {} bytes, library {}, Rust {}, ratio {:.3}",
+        source.len(),
+        shown(library),
+        shown(rust),
+        library / rust
+    );
+    println!();
+}
+
 /// The files of the table.
 fn files() -> Vec<File> {
     let jets = |jet: &str, list: &str, other: &str| {
@@ -239,6 +257,13 @@ mod tests {
             let lists = [&file.half.jets, &file.full.jets].map(Vec::len);
             assert_eq!(lists, [32_768, 65_536]);
         }
+    }
+
+    #[test]
+    fn the_small_file_that_is_refused_is_refused_by_both() {
+        let source = SMALL_REFUSED;
+        assert!(zaghdurem::read(source.as_bytes(), b"", &mut Tables::new()).is_err());
+        assert!(oracle::read(source, b"").is_err());
     }
 
     #[test]
