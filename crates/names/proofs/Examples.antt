@@ -55,6 +55,11 @@ types-in-order = refl
 
 -- ---- uses
 
+-- a type's name is none
+pub type-unused : Uses (linesOf "main : a -> 1") (bytes "main") (bytes "a") → ⊥
+unfolding opened Refers
+type-unused (t, (h, r), e) = r
+
 -- a reference inside `#{ }` is a use
 pub used-inside : Uses (linesOf "main := assertl unit #{ a } a := unit") (bytes "main") (bytes "a")
 unfolding opened Refers

@@ -25,6 +25,13 @@ named s = namedRows (linesOf s)
 abbrev row : node.Kind → (at name left right start len inDegree : ℕ) → List ℕ
 row k at n l r s w d = node.number k ∷ at ∷ n ∷ l ∷ r ∷ s ∷ w ∷ d ∷ []
 
+-- an assertion on a literal CMR has its node, with no right child and the literal as its span
+pub literal-nodes :
+    nodes "a := assertl unit #0123456789abcdef0123456789abcdef0123456789abcdef0123456789abcdef"
+    ≡ row (node.part node.unit) 13 0 0 0 0 0 1 ∷ row (node.part node.assertl) 0 1 1 0 18 65 0 ∷ []
+unfolding opened
+literal-nodes = refl
+
 -- the right child before the left, and a name's nodes where it is first used
 pub pair-nodes :
     nodes "main := pair a iden\na := unit"
@@ -60,10 +67,3 @@ unknown-nodes = refl
 pub typed-nodes : nodes "a : 1 -> 1" ≡ row node.noexpr 0 1 0 0 0 1 0 ∷ []
 unfolding opened
 typed-nodes = refl
-
--- an assertion on a literal CMR has its node, with no right child and the literal as its span
-pub literal-nodes :
-    nodes "a := assertl unit #0123456789abcdef0123456789abcdef0123456789abcdef0123456789abcdef"
-    ≡ row (node.part node.unit) 13 0 0 0 0 0 1 ∷ row (node.part node.assertl) 0 1 1 0 18 65 0 ∷ []
-unfolding opened
-literal-nodes = refl
