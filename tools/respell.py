@@ -12,7 +12,7 @@ import glob
 import re
 import sys
 
-WORD = re.compile(r"[A-Za-z_][A-Za-z0-9_'₀-₉-]*")
+WORD = re.compile(r"(?<!\w)[A-Za-z_][A-Za-z0-9_'₀-₉-]*")
 QUIET = re.compile(r'--[^\n]*|"(?:[^"\\\n]|\\.)*"')
 USE = re.compile(r"\buse ([^\s;{]+)\.\{([^}]*)\}")
 SIGN = re.compile(r"(?m)^ *(?:(?:pub|abbrev|unfoldable|private|mutual|data|record) +)*([^\s(){}.;,:]+(?: +[^\s(){}.;,:=]+)*)(?: *\{[^}\n]*\})* +:(?= |$)")

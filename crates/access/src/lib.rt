@@ -1,4 +1,6 @@
 // What a user reads from the tables of a reading. Each function takes any words.
+#![tactic(auto)]
+
 ghost use Rattle.std.specs.Prelude.{◌≡◌, length};
 ghost use Rattle.records.specs.Limits.{node_width};
 ghost use Rattle.access.specs.Access.{part_in, name_span, name_text_of, in_table, is_root_at, next_root};

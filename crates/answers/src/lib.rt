@@ -1,4 +1,6 @@
 // What a host is handed for an answer: a struct of numbers, which passes over C.
+#![tactic(auto)]
+
 ghost use Rattle.std.specs.Prelude.{◌≡◌};
 ghost use Rattle.answers.specs.Rows.{lexed_row, parsed_row, read_row, part_row, listed_row};
 
@@ -8,7 +10,7 @@ use records::Span;
 
 // A row of the table of refusals, and how many tokens there are.
 #[repr(C)]
-#[derive(Drop)]
+#[derive(Clone, Copy)]
 pub struct LexedRow {
     pub no: u32,
     pub value: u32,
@@ -31,7 +33,7 @@ pub fn lexed_row(answer: LexAnswer) -> LexedRow
 
 // A row of the table of refusals, and how many records there are of each table.
 #[repr(C)]
-#[derive(Drop)]
+#[derive(Clone, Copy)]
 pub struct ParsedRow {
     pub no: u32,
     pub value: u32,
@@ -61,7 +63,7 @@ pub fn parsed_row(answer: ParseAnswer) -> ParsedRow
 
 // A row of the table of refusals, and how many records there are of each table.
 #[repr(C)]
-#[derive(Drop)]
+#[derive(Clone, Copy)]
 pub struct ReadRow {
     pub no: u32,
     pub value: u32,
@@ -98,7 +100,7 @@ pub fn read_row(answer: ReadAnswer) -> ReadRow
 
 // A part of the source: where it starts and how many bytes it has.
 #[repr(C)]
-#[derive(Drop)]
+#[derive(Clone, Copy)]
 pub struct PartRow {
     pub start: u32,
     pub len: u32,
@@ -117,7 +119,7 @@ pub fn part_row(part: Span) -> PartRow
 
 // Whether the text was written, and how many bytes it has.
 #[repr(C)]
-#[derive(Drop)]
+#[derive(Clone, Copy)]
 pub struct ListedRow {
     pub listed: u32,
     pub len: usize,

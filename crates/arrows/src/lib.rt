@@ -1,4 +1,6 @@
 // Arrows: the Rust's `parse_arrow`, over a lent table of types.
+#![tactic(auto)]
+
 ghost use Rattle.std.specs.Prelude.{◌≡◌, List, ℕ, ◌≤◌, length};
 ghost use Rattle.records.specs.Limits.{source_limit};
 ghost use Rattle.checks.specs.Checks.{checks_of};
@@ -14,7 +16,7 @@ use records::numbers::TypeNo;
 use types::TypeAnswer;
 
 // The two types of an arrow and the cursor behind it; or a refusal.
-#[derive(Drop)]
+#[derive(Clone, Copy)]
 pub enum ArrowAnswer {
     Read(TypeNo, TypeNo, Cursor),
     Refused(ParseRefusal),

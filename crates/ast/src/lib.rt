@@ -1,4 +1,6 @@
 // The lines of a source: the Rust's `parse_line_vector`, over lent tables.
+#![tactic(auto)]
+
 ghost use Rattle.std.specs.Prelude.{◌≡◌, [], ◌*◌, ◌≤◌, length};
 ghost use Rattle.records.specs.Limits.{source_limit, record_limit, token_width, line_width, expr_width, type_width};
 ghost use Rattle.tables.specs.Tables.{table_of, written};
@@ -18,7 +20,7 @@ use records::numbers::{ExprNo, TokenNo, TypeNo};
 use records::{ExprRecord, LineRecord, TokenRecord, TypeRecord};
 
 // How many tokens there are, if the source has lexed.
-#[derive(Drop)]
+#[derive(Clone, Copy)]
 pub enum Lexed {
     Tokens(u32),
     No,

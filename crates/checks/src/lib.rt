@@ -1,4 +1,6 @@
 // Tests on a token's text: the lengths of literals, exponents, jets.
+#![tactic(auto)]
+
 ghost use Rattle.std.specs.Prelude.{◌≡◌, ◌||◌, ◌+◌, ◌-◌, ◌*◌, ◌^◌, ◌≤◌, ◌<◌, length, drop};
 ghost use Rattle.records.specs.Refusals.{refusal_row as row_with, row_of};
 ghost use Rattle.checks.specs.Powers.{log2 as log_of, exponent_of};
@@ -11,7 +13,7 @@ use records::numbers::ByteOffset;
 use records::refusals::Refusal;
 
 // Why the grammar refuses a token.
-#[derive(Drop)]
+#[derive(Clone, Copy)]
 pub enum Fault {
     ParseFailed,
     BadWordLength(u32),
@@ -24,21 +26,21 @@ pub enum Fault {
 }
 
 // A token's text passes, or it is refused.
-#[derive(Drop)]
+#[derive(Clone, Copy)]
 pub enum Verdict {
     Pass,
     Fails(Fault),
 }
 
 // A power of two passes as 2^(2^n), or it is refused.
-#[derive(Drop)]
+#[derive(Clone, Copy)]
 pub enum PowerVerdict {
     Power(u32),
     BadPower(Fault),
 }
 
 // The k of 2^k, if the number is a power of two.
-#[derive(Drop)]
+#[derive(Clone, Copy)]
 pub enum Log2 {
     Exactly(u32),
     NoPower,

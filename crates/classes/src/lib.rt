@@ -1,9 +1,11 @@
 // Classes of bytes: how far the bytes of a class run, and whether a word stands at the front.
+#![tactic(auto)]
+
 ghost use Rattle.std.specs.Prelude.{◌≡◌, ◌≤◌, length, drop};
 ghost use Rattle.classes.specs.Classes.{begins_symbol, has as has_byte, word, starts, run as run_of};
 
 // A set of bytes.
-#[derive(Drop)]
+#[derive(Clone, Copy)]
 pub enum Class {
     Byte(u8),
     Bit,

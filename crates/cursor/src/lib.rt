@@ -1,4 +1,6 @@
 // The Rust's `Parser`, as a cursor by value over a lent table of tokens. Each function takes any words.
+#![tactic(auto)]
+
 ghost use Rattle.std.specs.Prelude.{◌≡◌, ◌+◌, ◌≤◌, leb, length};
 ghost use Rattle.records.specs.Base.{if◌then◌else◌};
 ghost use Rattle.records.specs.Limits.{source_limit};
@@ -16,7 +18,7 @@ use records::numbers::{ByteOffset, ExprNo, TokenNo, TypeNo};
 use records::{Span, TokenRecord};
 
 // Where a parser stands: the numbers of the token passed last, and of the expression and the type recorded last.
-#[derive(Drop)]
+#[derive(Clone, Copy)]
 pub struct Cursor {
     pub token: TokenNo,
     pub expr: ExprNo,
@@ -24,21 +26,21 @@ pub struct Cursor {
 }
 
 // Why the grammar refuses, and where.
-#[derive(Drop)]
+#[derive(Clone, Copy)]
 pub struct ParseRefusal {
     pub fault: Fault,
     pub at: ByteOffset,
 }
 
 // The next token and the cursor behind it, or the end of the source.
-#[derive(Drop)]
+#[derive(Clone, Copy)]
 pub enum Ahead {
     Next(TokenRecord, Cursor),
     End,
 }
 
 // The cursor behind a token that had to come, or a refusal.
-#[derive(Drop)]
+#[derive(Clone, Copy)]
 pub enum Expected {
     Passed(Cursor),
     Refused(ParseRefusal),

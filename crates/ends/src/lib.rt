@@ -1,4 +1,6 @@
 // How parsing, reading and listing end: the answers, their rows of the table of refusals, and their counts.
+#![tactic(auto)]
+
 ghost use Rattle.std.specs.Prelude.{◌≡◌};
 ghost use Rattle.records.specs.Refusals.{no_row};
 ghost use Rattle.ends.specs.Rows.{row_of_parse_end, row_of_parse, row_of_read, no_counts, no_read_counts, counts_of_end, counts_of_parse, counts_of_read};
@@ -8,7 +10,7 @@ use lex::LexAnswer;
 use records::refusals::Refusal;
 
 // How many records there are of each table.
-#[derive(Drop)]
+#[derive(Clone, Copy)]
 pub struct Counts {
     pub tokens: u32,
     pub lines: u32,
@@ -17,21 +19,21 @@ pub struct Counts {
 }
 
 // What parsing tokens ends with: so many records, or a refusal.
-#[derive(Drop)]
+#[derive(Clone, Copy)]
 pub enum ParseEnd {
     Lines(Counts),
     Refused(ParseRefusal),
 }
 
 // The parser's answer for any source, any jet list and any lent tables.
-#[derive(Drop)]
+#[derive(Clone, Copy)]
 pub enum ParseAnswer {
     NotLexed(LexAnswer),
     Parsed(ParseEnd),
 }
 
 // How many records there are of each table that reading fills; work has none.
-#[derive(Drop)]
+#[derive(Clone, Copy)]
 pub struct ReadCounts {
     pub parsed: Counts,
     pub names: u32,
@@ -40,14 +42,14 @@ pub struct ReadCounts {
 }
 
 // The reader's answer for any source, any jet list and any lent tables.
-#[derive(Drop)]
+#[derive(Clone, Copy)]
 pub enum ReadAnswer {
     Read(ReadCounts),
     Refused(ParseAnswer),
 }
 
 // The lister's answer: how many bytes of the output the text has, or that there is no room.
-#[derive(Drop)]
+#[derive(Clone, Copy)]
 pub enum ListAnswer {
     Listed(usize),
     NoRoom,

@@ -1,4 +1,6 @@
 // The errors of nodes: one for each missing or incomplete node, behind the errors of lines.
+#![tactic(auto)]
+
 ghost use Rattle.std.specs.Prelude.{◌≡◌};
 ghost use Rattle.records.specs.Limits.{node_width};
 ghost use Rattle.tables.specs.Tables.{word_at};

@@ -1,4 +1,6 @@
 // Expressions and CMRs: the Rust's `parse_expr` and `parse_cmr`, over a lent table of expressions.
+#![tactic(auto)]
+
 ghost use Rattle.std.specs.Prelude.{◌≡◌, ◌≤◌, length};
 ghost use Rattle.records.specs.Limits.{source_limit};
 ghost use Rattle.checks.specs.Checks.{checks_of};
@@ -15,21 +17,21 @@ use records::numbers::{ByteOffset, ExprNo};
 use records::{ExprRecord, Span};
 
 // An expression's number and the cursor behind it, or a refusal.
-#[derive(Drop)]
+#[derive(Clone, Copy)]
 pub enum ExprAnswer {
     Read(ExprNo, Cursor),
     Refused(ParseRefusal),
 }
 
 // A CMR and the cursor behind it, or a refusal.
-#[derive(Drop)]
+#[derive(Clone, Copy)]
 pub enum CmrAnswer {
     Read(Cmr, Cursor),
     Refused(ParseRefusal),
 }
 
 // What begins a CMR.
-#[derive(Drop)]
+#[derive(Clone, Copy)]
 pub enum CmrHead {
     Brace(Cursor),
     Literal(Span, Cursor),
@@ -37,7 +39,7 @@ pub enum CmrHead {
 }
 
 // An expression whose parts are read, not recorded yet; or a refusal.
-#[derive(Drop)]
+#[derive(Clone, Copy)]
 pub enum Complete {
     Inner(ExprInner, Cursor),
     Refused(ParseRefusal),

@@ -1,4 +1,6 @@
 // What begins an expression: the Rust's `parse_literal` and the front of its `parse_expr`; and the record of an expression.
+#![tactic(auto)]
+
 ghost use Rattle.std.specs.Prelude.{◌≡◌, ◌∷◌, ◌≤◌, length};
 ghost use Rattle.records.specs.Limits.{source_limit};
 ghost use Rattle.lex.specs.Tokens.{record_of};
@@ -20,14 +22,14 @@ use records::numbers::{ByteOffset, ExprNo};
 use records::{ExprRecord, Span, TokenRecord};
 
 // The Rust's `AstCmr`; a literal is kept.
-#[derive(Drop)]
+#[derive(Clone, Copy)]
 pub enum Cmr {
     Expr(ExprNo),
     Literal(Span),
 }
 
 // The Rust's `ExprInner`: parts are numbers of records, and an assertion holds a CMR.
-#[derive(Drop)]
+#[derive(Clone, Copy)]
 pub enum ExprInner {
     Reference(Span),
     AssertL(ExprNo, Cmr),
@@ -42,14 +44,14 @@ pub enum ExprInner {
 }
 
 // A literal, how many bits it has, and the cursor behind it; or a refusal.
-#[derive(Drop)]
+#[derive(Clone, Copy)]
 pub enum LiteralAnswer {
     Read(Span, u32, Cursor),
     Refused(ParseRefusal),
 }
 
 // A keyword with two parts: two expressions, an expression and a CMR, or a CMR and an expression.
-#[derive(Drop)]
+#[derive(Clone, Copy)]
 pub enum TwoParts {
     Binary(NodeKind),
     AssertL,
@@ -57,7 +59,7 @@ pub enum TwoParts {
 }
 
 // What begins an expression: a whole one with its place, or a parenthesis or a keyword whose parts follow; and the cursor behind it.
-#[derive(Drop)]
+#[derive(Clone, Copy)]
 pub enum ExprHead {
     Whole(ExprInner, ByteOffset, Cursor),
     Parens(Cursor),
@@ -67,7 +69,7 @@ pub enum ExprHead {
 }
 
 // A keyword by how many expressions follow it, with the kind of the expression.
-#[derive(Drop)]
+#[derive(Clone, Copy)]
 pub enum Keyword {
     Nullary(NodeKind),
     Unary(NodeKind),

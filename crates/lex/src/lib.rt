@@ -1,4 +1,6 @@
 // The lexer: the Rust's `lex_all`, on bytes and a lent table.
+#![tactic(auto)]
+
 ghost use Rattle.std.specs.Prelude.{◌≡◌, [], ◌+◌, ◌*◌, ◌<◌, ◌≤◌, length, drop};
 ghost use Rattle.records.specs.Limits.{source_limit, record_limit, token_width};
 ghost use Rattle.tables.specs.Tables.{table_of, written};
@@ -16,7 +18,7 @@ use records::{Span, TokenRecord};
 use text::TextAnswer;
 
 // What lexing ends with: so many tokens, a byte where nothing matches, or the start of a 1,025th token.
-#[derive(Drop)]
+#[derive(Clone, Copy)]
 pub enum LexEnd {
     Tokens(u32),
     NoToken(ByteOffset),
@@ -24,14 +26,14 @@ pub enum LexEnd {
 }
 
 // Where lexing goes on, with so many tokens before it, or how it ends.
-#[derive(Drop)]
+#[derive(Clone, Copy)]
 pub enum Next {
     Go(usize, u32),
     End(LexEnd),
 }
 
 // The answer for any source and any lent table.
-#[derive(Drop)]
+#[derive(Clone, Copy)]
 pub enum LexAnswer {
     ShortTable,
     LongSource,

@@ -1,4 +1,6 @@
 // One line: the Rust's `parse_line`, over lent tables of expressions and types.
+#![tactic(auto)]
+
 ghost use Rattle.std.specs.Prelude.{◌≡◌, ◌≤◌, length};
 ghost use Rattle.records.specs.Limits.{source_limit};
 ghost use Rattle.checks.specs.Checks.{checks_of};
@@ -19,7 +21,7 @@ use records::numbers::ExprNo;
 use records::{LineRecord, Span};
 
 // What begins a line: a name and `:=`, or a name and `:`; and the cursor behind them.
-#[derive(Drop)]
+#[derive(Clone, Copy)]
 pub enum LineHead {
     Defined(Span, Cursor),
     Declared(Span, Cursor),
@@ -27,7 +29,7 @@ pub enum LineHead {
 }
 
 // A line's record and the cursor behind it, or a refusal.
-#[derive(Drop)]
+#[derive(Clone, Copy)]
 pub enum LineAnswer {
     Read(LineRecord, Cursor),
     Refused(ParseRefusal),

@@ -1,4 +1,6 @@
 // The listing of a source, put into a lent output.
+#![tactic(auto)]
+
 ghost use Rattle.std.specs.Prelude.{◌≡◌, ◌≤◌, leb, length};
 ghost use Rattle.print.specs.Text.{listing_limit, Puts};
 ghost use Rattle.reader.specs.Reading.{eight, read_into, read_tables};

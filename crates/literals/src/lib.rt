@@ -1,4 +1,6 @@
 // What literals say: how many bits they have, and their packed bytes.
+#![tactic(auto)]
+
 ghost use Rattle.std.specs.Prelude.{◌≡◌, true, ◌-◌, ◌^◌, ◌≤◌, ◌<◌, get_or};
 ghost use Rattle.records.specs.Limits.{source_limit};
 ghost use Rattle.classes.specs.declared.Class.TheVariants.{Bit, LowHex};

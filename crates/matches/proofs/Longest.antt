@@ -41,6 +41,7 @@ has_run c (suc m) (b ∷ s) h (more e w) = let r = has_run c m s (omega arith) w
 has_stop : (m : ℕ) (s : List ℕ) → m ≤ length s → Has [] stop (take m s) → m ≤ 0
 has_stop zero s h w = omega arith
 has_stop (suc m) [] h w = omega arith
+has_stop (suc m) (_ ∷ _) h w = elim w [ ]
 
 -- the same of a whole row
 starts_has : (f : List Class) (r : Rest) (s : List ℕ) → starts f s ≡ true → Has f r (take (length f + run_rest r (drop (length f) s)) s)
@@ -58,6 +59,7 @@ has_starts (c ∷ cs) r (suc m) [] h w = absurd (omega arith)
 has_starts (c ∷ cs) r (suc m) (b ∷ s) h (byte e w) =
     let i = has_starts cs r m s (omega arith) w in
     (rw (e, i.0), omega (arith, i.1))
+has_starts (c ∷ cs) r zero s h w = elim w [ ]
 
 run_rest_le : (r : Rest) (s : List ℕ) → run_rest r s ≤ length s
 run_rest_le stop s = omega arith
@@ -95,6 +97,7 @@ front_some r s n e f = go r.fixed n (ltb-true _ _ e) f.string
     go : (f : List Class) (n : ℕ) → 0 < length f → Has f r.rest (take n s) → 0 < n
     go [] n h w = absurd (omega arith)
     go (c ∷ cs) (suc n) h w = omega arith
+    go (c ∷ cs) zero h w = elim w [ ]
 
 among_some : {q : Row} {rs : List Row} → Among q rs → 0 < length rs
 among_some here = omega arith

@@ -1,4 +1,6 @@
 // What stands at the front of a text: the longest match of a token or a skip, the Rust's `Token`.
+#![tactic(auto)]
+
 ghost use Rattle.std.specs.Prelude.{◌≡◌, ◌<◌, length, get_or};
 ghost use Rattle.records.specs.Base.{if◌then◌else◌};
 ghost use Rattle.matches.specs.Longest.{lex_at};
@@ -8,7 +10,7 @@ use classes::Class;
 use records::kinds::TokenKind;
 
 // What stands at a place: a token of a kind and a length, bytes to skip, or neither.
-#[derive(Drop)]
+#[derive(Clone, Copy)]
 pub enum Lexed {
     Token(TokenKind, usize),
     Skip(usize),

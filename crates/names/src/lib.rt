@@ -1,4 +1,6 @@
 // Names: the Rust's `parse_inner`, step 1, over lent tables.
+#![tactic(auto)]
+
 ghost use Rattle.std.specs.Prelude.{◌≡◌, List, ◌*◌, ◌≤◌, length};
 ghost use Rattle.records.specs.Limits.{record_limit, name_width, error_width};
 ghost use Rattle.records.specs.Records.{name_words, error_words};
@@ -12,14 +14,14 @@ use records::numbers::{ByteOffset, ErrorNo, ExprNo, LineNo, NameNo, NodeNo};
 use records::{ErrorRecord, ExprRecord, LineRecord, NameRecord, Span};
 
 // How many names and errors there are.
-#[derive(Drop)]
+#[derive(Clone, Copy)]
 pub struct NameCounts {
     pub names: u32,
     pub errors: u32,
 }
 
 // What a line does: a name more, another record for a name that is known, an error more, or nothing.
-#[derive(Drop)]
+#[derive(Clone, Copy)]
 pub enum Entry {
     New(NameRecord),
     Known(NameNo, NameRecord),

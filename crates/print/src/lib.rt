@@ -1,5 +1,7 @@
 // Text put into a lent output, piece by piece. What would stand past the output's end is left out, so that the same functions find out
 // how long a text is.
+#![tactic(auto)]
+
 ghost use Rattle.std.specs.Prelude.{◌≡◌, [], ◌∷◌, ◌+◌, ◌≤◌, ◌<◌, length, set};
 ghost use Rattle.text.specs.Place.{position_of};
 ghost use Rattle.print.specs.Text.{digits, decimal, place_word, listing_limit, Puts};

@@ -1,4 +1,6 @@
 // The reader: what a source says, for any bytes, any jet list and any lent tables.
+#![tactic(auto)]
+
 ghost use Rattle.std.specs.Prelude.{◌≡◌, [], ◌*◌, ◌≤◌, length, ℕ, List};
 ghost use Rattle.records.specs.Limits.{record_limit, name_width, node_width, error_width, work_width};
 ghost use Rattle.tables.specs.Tables.{table_of};
@@ -13,7 +15,7 @@ use records::limits::Limits;
 use records::{ErrorRecord, NameRecord, NodeRecord, WorkRecord};
 
 // What parsing leaves to be done: nothing, since no word was changed; to set the other tables to zero; to resolve the lines.
-#[derive(Drop)]
+#[derive(Clone, Copy)]
 enum AfterParse {
     Untouched,
     Cleared,

@@ -6,7 +6,7 @@ ghost use Rattle.records.specs.NodeKind as node;
 ghost use Rattle.records.specs.ErrorKind as error;
 
 // The Rust's `Token`.
-#[derive(Drop)]
+#[derive(Clone, Copy)]
 pub struct TokenKind(pub u32);
 
 impl TokenKind {
@@ -80,7 +80,7 @@ impl TokenKind {
 }
 
 // The Rust's `ast::Type`.
-#[derive(Drop)]
+#[derive(Clone, Copy)]
 pub struct TypeKind(pub u32);
 
 impl TypeKind {
@@ -98,7 +98,7 @@ impl TypeKind {
 }
 
 // The Rust's `ResolvedInner`. Expressions use these kinds too, but never the first two.
-#[derive(Drop)]
+#[derive(Clone, Copy)]
 pub struct NodeKind(pub u32);
 
 impl NodeKind {
@@ -144,7 +144,7 @@ impl NodeKind {
 }
 
 // The Rust's `Error`, those kinds that a reading lists.
-#[derive(Drop)]
+#[derive(Clone, Copy)]
 pub struct ErrorKind(pub u32);
 
 impl ErrorKind {

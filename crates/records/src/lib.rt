@@ -1,5 +1,7 @@
 // What the numbers mean: the records of the tables, their words, and which word of a record holds what. The kinds, the
 // limits and the types of numbers stand in modules of their own.
+#![tactic(auto)]
+
 ghost use Rattle.std.specs.Prelude.{◌≡◌};
 ghost use Rattle.records.specs.Records.{no_span, token_words, line_words, expr_words, type_words, name_words, node_words, error_words, word_places};
 
@@ -12,7 +14,7 @@ pub mod numbers;
 pub mod refusals;
 
 // A part of the source; 0, 0 for none.
-#[derive(Drop)]
+#[derive(Clone, Copy)]
 pub struct Span {
     pub start: ByteOffset,
     pub len: u32,
@@ -28,7 +30,7 @@ pub fn no_span() -> Span
     }
 }
 
-#[derive(Drop)]
+#[derive(Clone, Copy)]
 pub struct TokenRecord {
     pub kind: TokenKind,
     pub span: Span,
@@ -51,7 +53,7 @@ impl TokenRecord {
     }
 }
 
-#[derive(Drop)]
+#[derive(Clone, Copy)]
 pub struct LineRecord {
     pub name: Span,
     pub expr: ExprNo,
@@ -86,7 +88,7 @@ impl LineRecord {
     }
 }
 
-#[derive(Drop)]
+#[derive(Clone, Copy)]
 pub struct ExprRecord {
     pub kind: NodeKind,
     pub start: ByteOffset,
@@ -126,7 +128,7 @@ impl ExprRecord {
 }
 
 // A type. Left and right are the numbers of its parts, or the start and length of a name.
-#[derive(Drop)]
+#[derive(Clone, Copy)]
 pub struct TypeRecord {
     pub kind: TypeKind,
     pub left: u32,
@@ -153,7 +155,7 @@ impl TypeRecord {
     }
 }
 
-#[derive(Drop)]
+#[derive(Clone, Copy)]
 pub struct NameRecord {
     pub span: Span,
     pub expr: ExprNo,
@@ -179,7 +181,7 @@ impl NameRecord {
     }
 }
 
-#[derive(Drop)]
+#[derive(Clone, Copy)]
 pub struct NodeRecord {
     pub kind: NodeKind,
     pub start: ByteOffset,
@@ -226,7 +228,7 @@ impl NodeRecord {
     }
 }
 
-#[derive(Drop)]
+#[derive(Clone, Copy)]
 pub struct ErrorRecord {
     pub kind: ErrorKind,
     pub start: ByteOffset,
@@ -253,7 +255,7 @@ impl ErrorRecord {
 }
 
 // The work table is the walk's: what its four words hold is said there.
-#[derive(Drop)]
+#[derive(Clone, Copy)]
 pub struct WorkRecord {}
 
 impl WorkRecord {

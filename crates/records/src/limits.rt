@@ -9,7 +9,7 @@ use crate::{
 
 // The limits, and the words of a record of each table, for a caller who lends the tables.
 #[repr(C)]
-#[derive(Drop)]
+#[derive(Clone, Copy)]
 pub struct Limits {
     pub source_bytes: u32,
     pub records: u32,

@@ -1,7 +1,7 @@
 // A row of document 01's table of refusals, as a host is handed it.
 
 #[repr(C)]
-#[derive(Drop)]
+#[derive(Clone, Copy)]
 pub struct Refusal {
     // The refusal's number; 0 is none.
     pub no: u32,

@@ -1,4 +1,6 @@
 // Resolves names: the Rust's `parse_inner`, step 2, with an explicit stack in the lent work table. Each function takes any words.
+#![tactic(auto)]
+
 ghost use Rattle.std.specs.Prelude.{◌≡◌, true, false, List, ◌*◌, ◌-◌, ◌≤◌, length};
 ghost use Rattle.records.specs.Limits.{record_limit, name_width, node_width, work_width, expr_width};
 ghost use Rattle.records.specs.NodeKind as node;
@@ -14,7 +16,7 @@ use records::{ExprRecord, NameRecord, NodeRecord, Span, WorkRecord};
 
 // The Rust's `StackItem`: an expression whose node is still to be made, the name whose outermost expression it is or 0, what it
 // waits for, and the node of its right child once that is made. Its words are a work record.
-#[derive(Drop)]
+#[derive(Clone, Copy)]
 pub struct StackItem {
     pub expr: ExprNo,
     pub name: NameNo,
@@ -47,7 +49,7 @@ impl StackItem {
 }
 
 // How far a name has come, as its word `node` says it: it is fresh, begun, or else finished with that node.
-#[derive(Drop)]
+#[derive(Clone, Copy)]
 pub struct Status {}
 
 impl Status {
@@ -58,7 +60,7 @@ impl Status {
 
 // Where the walk stands: going down into an expression, which is the outermost one of the name if that is not 0, or coming up
 // with the node that was made last. So many items wait, and so many nodes are made.
-#[derive(Drop)]
+#[derive(Clone, Copy)]
 pub struct Walker {
     pub up: bool,
     pub expr: ExprNo,

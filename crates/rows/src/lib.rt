@@ -1,4 +1,6 @@
 // The rows of the listing, put into a lent output.
+#![tactic(auto)]
+
 ghost use Rattle.std.specs.Prelude.{◌≡◌, ◌≤◌, length};
 ghost use Rattle.records.specs.Base.{if◌then◌else◌};
 ghost use Rattle.text.specs.Place.{position_of};

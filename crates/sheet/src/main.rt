@@ -1,4 +1,6 @@
 // The program `sheet`: reads jets.txt and standard input, and prints the sheet.
+#![tactic(auto)]
+
 ghost use Rattle.io.specs.Counts.{IsPrefixLen};
 
 use libc::{STDIN_FILENO, STDOUT_FILENO};
@@ -11,7 +13,7 @@ const SOURCE: usize = Limits::SOURCE as usize + 1;
 const JETS: usize = sheets::JETS + 1;
 
 // How many bytes of an input there are, and whether it was read to its end or until the buffer was full.
-#[derive(Drop)]
+#[derive(Clone, Copy)]
 struct Input {
     whole: bool,
     len: usize,

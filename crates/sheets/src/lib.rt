@@ -1,5 +1,7 @@
 // What the program prints, put into a lent output: the listing of a source, made with tables of its own, or that the jet list
 // is refused.
+#![tactic(auto)]
+
 ghost use Rattle.std.specs.Prelude.{◌≡◌, ◌≤◌, length, take};
 ghost use Rattle.reader.specs.Reading.{reading};
 ghost use Rattle.listing.specs.Listing.{listing, list_answer, listed_in};

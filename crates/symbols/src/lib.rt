@@ -1,4 +1,6 @@
 // What a name's text is, and which name has it, over a lent table of names. Each function takes any words.
+#![tactic(auto)]
+
 ghost use Rattle.std.specs.Prelude.{◌≡◌};
 ghost use Rattle.records.specs.Limits.{name_width};
 ghost use Rattle.tables.specs.Tables.{span_at};

@@ -1,4 +1,6 @@
 // The lent tables: words of records, read, written and cleared. Each function takes any words, of any length.
+#![tactic(auto)]
+
 ghost use Rattle.std.specs.Prelude.{◌≡◌, true, [], min, ◌-◌, ◌*◌, ◌^◌, ◌<◌, ◌≤◌, length, take, get_or, set};
 ghost use Rattle.records.specs.Base.{within};
 ghost use Rattle.records.specs.Limits.{record_limit};
@@ -92,7 +94,7 @@ pub fn write(table: &mut [u32], width: u32, number: u32, words: &[u32])
 }
 
 // The part of a table that is looked at before it is set to zero.
-#[derive(Drop)]
+#[derive(Clone, Copy)]
 struct Block;
 
 impl Block {

@@ -11,27 +11,27 @@ range a b = record { lo = a; hi = b }
 
 -- UTF8-tail
 abbrev pub tail : Range
-tail = range 0x80 0x_bf
+tail = range 0x80 0xBF
 
 -- UTF8-1 to UTF8-4, the lines of each in the grammar's order
 abbrev pub utf8_1 : List (List Range)
-utf8_1 = (range 0x00 0x7_f ∷ []) ∷ []
+utf8_1 = (range 0x00 0x7F ∷ []) ∷ []
 
 abbrev pub utf8_2 : List (List Range)
-utf8_2 = (range 0x_c2 0x_df ∷ tail ∷ []) ∷ []
+utf8_2 = (range 0xC2 0xDF ∷ tail ∷ []) ∷ []
 
 abbrev pub utf8_3 : List (List Range)
 utf8_3 =
-    (range 0x_e0 0x_e0 ∷ range 0x_a0 0x_bf ∷ tail ∷ []) ∷
-    (range 0x_e1 0x_ec ∷ tail ∷ tail ∷ []) ∷
-    (range 0x_ed 0x_ed ∷ range 0x80 0x9_f ∷ tail ∷ []) ∷
-    (range 0x_ee 0x_ef ∷ tail ∷ tail ∷ []) ∷ []
+    (range 0xE0 0xE0 ∷ range 0xA0 0xBF ∷ tail ∷ []) ∷
+    (range 0xE1 0xEC ∷ tail ∷ tail ∷ []) ∷
+    (range 0xED 0xED ∷ range 0x80 0x9F ∷ tail ∷ []) ∷
+    (range 0xEE 0xEF ∷ tail ∷ tail ∷ []) ∷ []
 
 abbrev pub utf8_4 : List (List Range)
 utf8_4 =
-    (range 0x_f0 0x_f0 ∷ range 0x90 0x_bf ∷ tail ∷ tail ∷ []) ∷
-    (range 0x_f1 0x_f3 ∷ tail ∷ tail ∷ tail ∷ []) ∷
-    (range 0x_f4 0x_f4 ∷ range 0x80 0x8_f ∷ tail ∷ tail ∷ []) ∷ []
+    (range 0xF0 0xF0 ∷ range 0x90 0xBF ∷ tail ∷ tail ∷ []) ∷
+    (range 0xF1 0xF3 ∷ tail ∷ tail ∷ tail ∷ []) ∷
+    (range 0xF4 0xF4 ∷ range 0x80 0x8F ∷ tail ∷ tail ∷ []) ∷ []
 
 -- UTF8-char
 abbrev pub rules : List (List Range)

@@ -1,14 +1,16 @@
 // The text of a source: whether it is UTF-8 (refusal 3), and the line and column of an offset. The bytes here are of any
 // length, so a place is no `ByteOffset`.
+#![tactic(auto)]
+
 ghost use Rattle.std.specs.Prelude.{◌≡◌, [], ◌∷◌, ◌+◌, ◌≤◌, ◌<◌, ◌^◌, length, get_or};
 ghost use Rattle.text.specs.Check.{begins_by, char_len, check_text, row_of_text};
-ghost use Rattle.text.specs.Utf8.{utf8-1, utf8-2, utf8-3, utf8-4};
+ghost use Rattle.text.specs.Utf8.{utf8_1, utf8_2, utf8_3, utf8_4};
 ghost use Rattle.text.specs.Place.{begins_char, pass, position_of};
 
 use records::refusals::Refusal;
 
 // What is found of the bytes of a source.
-#[derive(Drop)]
+#[derive(Clone, Copy)]
 pub enum TextAnswer {
     Valid,
     // The first byte of the first ill-formed sequence.
@@ -44,44 +46,44 @@ pub fn byte_at(s: &[u8], i: usize) -> u8
 
 // RFC 3629's UTF8-1, on the bytes of a character; its lines are written as the definition has them.
 fn is_one(a: u8) -> bool
-    ensures { result ≡ begins_by utf8-1 (a ∷ []) }
+    ensures { result ≡ begins_by utf8_1 (a ∷ []) }
 {
-    (0x00 <= a) & (a <= 0x7_f)
+    (0x00 <= a) & (a <= 0x7F)
 }
 
 // UTF8-2.
 fn is_two(a: u8, b: u8) -> bool
-    ensures { result ≡ begins_by utf8-2 (a ∷ b ∷ []) }
+    ensures { result ≡ begins_by utf8_2 (a ∷ b ∷ []) }
 {
-    ((0x_c2 <= a) & (a <= 0x_df)) & ((0x80 <= b) & (b <= 0x_bf))
+    ((0xC2 <= a) & (a <= 0xDF)) & ((0x80 <= b) & (b <= 0xBF))
 }
 
 // UTF8-3.
 fn is_three(a: u8, b: u8, c: u8) -> bool
-    ensures { result ≡ begins_by utf8-3 (a ∷ b ∷ c ∷ []) }
+    ensures { result ≡ begins_by utf8_3 (a ∷ b ∷ c ∷ []) }
 {
-    (((0x_e0 <= a) & (a <= 0x_e0)) & (((0x_a0 <= b) & (b <= 0x_bf)) & ((0x80 <= c) & (c <= 0x_bf))))
-        | ((((0x_e1 <= a) & (a <= 0x_ec))
-            & (((0x80 <= b) & (b <= 0x_bf)) & ((0x80 <= c) & (c <= 0x_bf))))
-            | ((((0x_ed <= a) & (a <= 0x_ed))
-                & (((0x80 <= b) & (b <= 0x9_f)) & ((0x80 <= c) & (c <= 0x_bf))))
-                | (((0x_ee <= a) & (a <= 0x_ef))
-                    & (((0x80 <= b) & (b <= 0x_bf)) & ((0x80 <= c) & (c <= 0x_bf))))))
+    (((0xE0 <= a) & (a <= 0xE0)) & (((0xA0 <= b) & (b <= 0xBF)) & ((0x80 <= c) & (c <= 0xBF))))
+        | ((((0xE1 <= a) & (a <= 0xEC))
+            & (((0x80 <= b) & (b <= 0xBF)) & ((0x80 <= c) & (c <= 0xBF))))
+            | ((((0xED <= a) & (a <= 0xED))
+                & (((0x80 <= b) & (b <= 0x9F)) & ((0x80 <= c) & (c <= 0xBF))))
+                | (((0xEE <= a) & (a <= 0xEF))
+                    & (((0x80 <= b) & (b <= 0xBF)) & ((0x80 <= c) & (c <= 0xBF))))))
 }
 
 // UTF8-4.
 fn is_four(a: u8, b: u8, c: u8, d: u8) -> bool
-    ensures { result ≡ begins_by utf8-4 (a ∷ b ∷ c ∷ d ∷ []) }
+    ensures { result ≡ begins_by utf8_4 (a ∷ b ∷ c ∷ d ∷ []) }
 {
-    (((0x_f0 <= a) & (a <= 0x_f0))
-        & (((0x90 <= b) & (b <= 0x_bf))
-            & (((0x80 <= c) & (c <= 0x_bf)) & ((0x80 <= d) & (d <= 0x_bf)))))
-        | ((((0x_f1 <= a) & (a <= 0x_f3))
-            & (((0x80 <= b) & (b <= 0x_bf))
-                & (((0x80 <= c) & (c <= 0x_bf)) & ((0x80 <= d) & (d <= 0x_bf)))))
-            | (((0x_f4 <= a) & (a <= 0x_f4))
-                & (((0x80 <= b) & (b <= 0x8_f))
-                    & (((0x80 <= c) & (c <= 0x_bf)) & ((0x80 <= d) & (d <= 0x_bf))))))
+    (((0xF0 <= a) & (a <= 0xF0))
+        & (((0x90 <= b) & (b <= 0xBF))
+            & (((0x80 <= c) & (c <= 0xBF)) & ((0x80 <= d) & (d <= 0xBF)))))
+        | ((((0xF1 <= a) & (a <= 0xF3))
+            & (((0x80 <= b) & (b <= 0xBF))
+                & (((0x80 <= c) & (c <= 0xBF)) & ((0x80 <= d) & (d <= 0xBF)))))
+            | (((0xF4 <= a) & (a <= 0xF4))
+                & (((0x80 <= b) & (b <= 0x8F))
+                    & (((0x80 <= c) & (c <= 0xBF)) & ((0x80 <= d) & (d <= 0xBF))))))
 }
 
 // How many bytes the character at the front has; 0 where there is none.
@@ -124,7 +126,7 @@ pub fn check_text(source: &[u8]) -> TextAnswer
 
 // A line and a column, both from 1.
 #[repr(C)]
-#[derive(Drop)]
+#[derive(Clone, Copy)]
 pub struct Position {
     pub line: usize,
     pub column: usize,

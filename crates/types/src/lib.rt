@@ -1,4 +1,6 @@
 // Types: the Rust's `parse_type` and `parse_type_atom`, over a lent table of types.
+#![tactic(auto)]
+
 ghost use Rattle.std.specs.Prelude.{◌≡◌, List, ℕ, ◌≤◌, length};
 ghost use Rattle.records.specs.Limits.{source_limit, type_width};
 ghost use Rattle.records.specs.Records.{type_words};
@@ -18,7 +20,7 @@ use records::numbers::{ByteOffset, TypeNo};
 use records::{Span, TokenRecord, TypeRecord};
 
 // The Rust's `ast::Type`: the parts of a product and a sum are numbers of records.
-#[derive(Drop)]
+#[derive(Clone, Copy)]
 pub enum TypeInner {
     Name(Span),
     One,
@@ -29,14 +31,14 @@ pub enum TypeInner {
 }
 
 // A type that was read, 0 if it is absent, and the cursor behind it; or a refusal.
-#[derive(Drop)]
+#[derive(Clone, Copy)]
 pub enum TypeAnswer {
     Read(TypeNo, Cursor),
     Refused(ParseRefusal),
 }
 
 // What begins an atom: a whole type, an absent one, or a parenthesis; and the cursor behind it.
-#[derive(Drop)]
+#[derive(Clone, Copy)]
 pub enum AtomHead {
     Whole(TypeInner, Cursor),
     Absent(Cursor),
@@ -45,14 +47,14 @@ pub enum AtomHead {
 }
 
 // `+` and `*`.
-#[derive(Drop)]
+#[derive(Clone, Copy)]
 pub enum Op {
     Sum,
     Product,
 }
 
 // What follows a type: an operator, with the type before it and the cursor behind it; or none.
-#[derive(Drop)]
+#[derive(Clone, Copy)]
 pub enum Operator {
     Is(Op, TypeNo, Cursor),
     Over,

@@ -9,7 +9,7 @@ use records::limits::Limits;
 use records::refusals::Refusal;
 
 // How many texts were compared, how many places of tokens agree, and how many cases are bad.
-#[derive(Drop)]
+#[derive(Clone, Copy)]
 pub(crate) struct Tally {
     pub texts: u64,
     pub places: u64,

@@ -3,6 +3,8 @@
 //
 // The list was made in host/ by `cargo run --release --bin vectors write ../crates/vectors/data`; its generated files come
 // from seed 1. `vectors check` compares it with the list made anew, and `vectors list` says what each case is about.
+#![tactic(auto)]
+
 ghost use Rattle.std.specs.Prelude.{◌<◌, ◌≤◌, ◌^◌};
 
 use compare::Tally;

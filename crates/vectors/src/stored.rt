@@ -19,14 +19,14 @@ const COUNTS: usize = 3;
 const HEAD: usize = 10;
 
 // Whether a file was there, and how many bytes of it were read.
-#[derive(Drop)]
+#[derive(Clone, Copy)]
 pub(crate) struct Loaded {
     pub found: bool,
     pub len: usize,
 }
 
 // A stored answer, with the word at which the places of the tokens begin.
-#[derive(Drop)]
+#[derive(Clone, Copy)]
 pub(crate) struct Stored {
     pub no: u32,
     pub value: u32,

@@ -1,5 +1,7 @@
 // The library as a host calls it through C: thin wrappers, each with the contract of what it wraps and nothing asked of the
 // caller. include/zaghdurem.h declares them.
+#![tactic(auto)]
+
 ghost use Rattle.std.specs.Prelude.{◌≡◌, length};
 ghost use Rattle.ast.specs.Parsing.{tables as lent_tables, parse_all, tables_after};
 ghost use Rattle.literals.specs.Literals.{literal_byte};
