@@ -1,5 +1,5 @@
 -- Document 01: what is read from the tables of a reading, for any words whatever.
-use Rattle.std.specs.Prelude.{ℕ, zero, suc, ◌+◌, ◌*◌, ◌-◌, Bool, ◌&&◌, List, [], eqb, leb, length}
+use Rattle.std.specs.Prelude.{ℕ, zero, suc, ◌+◌, ◌*◌, ◌-◌, Bool, ◌&&◌, List, eqb, leb, length}
 use Rattle.records.specs.Base.{if◌then◌else◌, within}
 use Rattle.records.specs.Limits.{record_limit, name_width, node_width}
 use Rattle.records.specs.Records.{no_span}

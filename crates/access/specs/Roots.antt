@@ -1,5 +1,5 @@
 -- Document 01, Names and nodes: roots.
-use Rattle.std.specs.Prelude.{ℕ, Bool, false, List, [], ◌∷◌, eqb}
+use Rattle.std.specs.Prelude.{Bool, false, List, [], ◌∷◌, eqb}
 use Rattle.std.proofs.Math.Option.{Option, none, some}
 use Rattle.records.specs.Base.{if◌then◌else◌}
 use Rattle.records.specs.declared.NameRecord.{NameRecord}

@@ -2,12 +2,11 @@
 use Prim.Native.Nat.{ℕ, ◌+◌}
 use mathlib.Core.Bool.{Bool, true, false}
 use mathlib.Core.Path.{◌≡◌, refl, sym, ap, subst, ◌∙◌}
-use mathlib.Core.List.{List, [], ◌∷◌, ◌++◌}
+use mathlib.Core.List.{List, [], ◌∷◌}
 use mathlib.Core.Option.{Option, none, some}
 use native.Mathlib.Omega.{arith}
 use lib.Dec.{eqb}
 use lib.ListN.{length}
-use Rattle.records.specs.Base.{if◌then◌else◌}
 use Rattle.records.specs.Limits.{depth_limit, type_width}
 use Rattle.records.specs.TokenKind as token
 use Rattle.records.specs.declared.numbers.TypeNo.{TypeNo}
@@ -25,7 +24,6 @@ use Rattle.cursor.specs.Tokens.{tokens_left}
 use Rattle.cursor.specs.Cursor.{refusal_at, stepped, expected, Ready, Reached}
 use Rattle.cursor.proofs.Meets.{Meets, passes, refuses, meets}
 use Rattle.cursor.proofs.Reached.{reached_none, reached_ready, reached_go, reached_after, reached_step, reached_first}
-use Rattle.grammar.specs.Tree as tree
 use Rattle.grammar.specs.Tree.{Ty, Arrow, present}
 use Rattle.grammar.specs.Rule.{Parsed, got, stop, go_on, entry, expect, perhaps}
 use Rattle.grammar.specs.Grammar.{type, arrow, perhaps_arrow}

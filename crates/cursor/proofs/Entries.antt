@@ -8,7 +8,6 @@ use mathlib.Core.Option.{none}
 use native.Mathlib.Omega.{arith}
 use lib.Dec.{eqb}
 use borrow.Author.Tests.{eqb-true, ne_eqb}
-use Rattle.records.specs.Base.{if◌then◌else◌}
 use Rattle.records.specs.TokenKind as token
 use Rattle.records.proofs.Choices.{and_left, and_right, or_cases}
 use Rattle.lex.specs.Tokens.{Token}

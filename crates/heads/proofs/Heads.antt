@@ -27,7 +27,7 @@ use Rattle.cursor.proofs.Steps.{ahead_end}
 use Rattle.grammar.specs.Tree as tree
 use Rattle.grammar.specs.Tree.{nullary_token, unary_token, binary_token}
 use Rattle.grammar.specs.Rule.{Parsed, got, stop, go_on, is_of, one_of, entry, choice}
-use Rattle.grammar.specs.Grammar.{names, literals, Head, leaf, unary, binary, assertl, assertr, hole, word, failing, jet, leaf_heads, inner_heads, head}
+use Rattle.grammar.specs.Grammar.{names, literals, Head, leaf, unary, binary, hole, word, failing, jet, leaf_heads, inner_heads, head}
 use Rattle.grammar.specs.Part.{part_of, weight, nullary_kind, span_of}
 use Rattle.grammar.specs.Recorded.{expr_records}
 use Rattle.heads.specs.declared.ExprInner.TheVariants.{Reference, Nullary, Hole, Fail, Jet, Word}

@@ -1,6 +1,6 @@
 -- Document 01 and demand 3: which names a program's names use, where uses lead, and when a program is sound. Statements on
 -- texts; nothing here computes.
-use Rattle.std.specs.Prelude.{ℕ, false, ◌≡◌, ◌⊎◌, List, [], ◌∷◌, ◌++◌, map}
+use Rattle.std.specs.Prelude.{false, ◌≡◌, ◌⊎◌, List, [], ◌∷◌, ◌++◌, map}
 use Rattle.lex.specs.Tokens.{Token}
 use Rattle.grammar.specs.Tree.{Line}
 use Rattle.grammar.specs.Part as part

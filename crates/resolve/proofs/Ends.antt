@@ -6,7 +6,7 @@ use native.Mathlib.Omega.{arith}
 use lib.ListN.{length, take}
 use Rattle.records.specs.Limits.{record_limit, name_width, node_width, work_width}
 use Rattle.records.specs.Records.{name_words, node_words}
-use Rattle.tables.specs.Tables.{table_of, beyond}
+use Rattle.tables.specs.Tables.{table_of}
 use Rattle.tables.proofs.Laws.{table_again, table_cleared}
 use Rattle.tables.proofs.Filled.{table_beyond}
 use Rattle.lex.specs.Tokens.{Token}

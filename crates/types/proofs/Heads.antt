@@ -1,6 +1,6 @@
 -- What begins an atom of a type, by the token's kind. Assumes nothing.
 use Prim.Native.Nat.{ℕ, zero, suc}
-use mathlib.Core.Path.{◌≡◌, refl, sym, ap, ◌∙◌}
+use mathlib.Core.Path.{◌≡◌, refl, sym, ap}
 use mathlib.Core.List.{List, [], ◌∷◌}
 use Rattle.records.specs.TokenKind as token
 use Rattle.records.specs.declared.TokenRecord.{TokenRecord}

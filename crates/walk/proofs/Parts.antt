@@ -1,6 +1,6 @@
 -- What the walk makes of the parts: one induction, for any property of a node and the nodes before it, and any property of a tree
 -- and the number of its node. The statements on nodes and demand 3 are instances.
-use Prim.Native.Nat.{ℕ, zero, suc, ◌+◌, ◌≤◌}
+use Prim.Native.Nat.{ℕ, zero, suc, ◌≤◌}
 use mathlib.Core.Path.{◌≡◌, refl, sym, ap, subst, ◌∙◌}
 use mathlib.Core.Bool.{Bool, true, false}
 use mathlib.Core.Logic.{◌⊎◌, inl, inr, ◌≢◌}

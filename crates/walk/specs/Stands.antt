@@ -1,6 +1,6 @@
 -- Which part a node stands for. proofs/: each node stands for a part, each part of each name's tree has a node, and there are as
 -- many nodes as parts.
-use Rattle.std.specs.Prelude.{ℕ, ◌+◌, ◌≤◌, ◌≡◌, ◌⊎◌, List, [], ◌∷◌, map}
+use Rattle.std.specs.Prelude.{ℕ, ◌+◌, ◌≡◌, ◌⊎◌, List, [], ◌∷◌, map}
 use Rattle.std.proofs.Math.Option.{Option, none as no, some}
 use Rattle.records.specs.NodeKind as node
 use Rattle.lex.specs.Tokens.{Token}
