@@ -1,5 +1,4 @@
 -- `exprs::assert_left` meets its contract: by whether its CMR was read. Assumes nothing.
-use borrow.Author.Rules.{rules}
 use Rattle.exprs.proofs.Steps.{left_read, left_refused}
 use Rattle.exprs.proofs.assert_left.Goals as goal
 

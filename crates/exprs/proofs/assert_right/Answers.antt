@@ -1,5 +1,4 @@
 -- `exprs::assert_right` meets its contract: by whether its expression was read. Assumes nothing.
-use borrow.Author.Rules.{rules}
 use Rattle.exprs.proofs.Steps.{right_read, right_refused}
 use Rattle.exprs.proofs.assert_right.Goals as goal
 

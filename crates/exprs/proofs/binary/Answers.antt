@@ -1,5 +1,4 @@
 -- `exprs::binary` meets its contract: by whether its right expression was read. Assumes nothing.
-use borrow.Author.Rules.{rules}
 use Rattle.exprs.proofs.Steps.{binary_read, binary_refused}
 use Rattle.exprs.proofs.binary.Goals as goal
 

@@ -1,5 +1,4 @@
 -- `exprs::close` meets its contract: by whether its expression was read, then by the token behind it. Assumes nothing.
-use borrow.Author.Rules.{rules}
 use Rattle.exprs.proofs.Steps.{close_passed, close_other, close_refused}
 use Rattle.exprs.proofs.close.Goals as goal
 

@@ -1,5 +1,4 @@
 -- `exprs::close_cmr` meets its contract: by whether its expression was read, then by the token behind it. Assumes nothing.
-use borrow.Author.Rules.{rules}
 use Rattle.exprs.proofs.Steps.{brace_passed, brace_other, brace_refused}
 use Rattle.exprs.proofs.close_cmr.Goals as goal
 

@@ -1,5 +1,4 @@
 -- `exprs::cmr_head` meets its contract: by what is ahead, then by its kind. Assumes nothing.
-use borrow.Author.Rules.{rules}
 use Rattle.exprs.proofs.Steps.{cmr_brace, cmr_literal, cmr_other, cmr_end}
 use Rattle.exprs.proofs.cmr_head.Goals as goal
 

@@ -1,5 +1,4 @@
 -- `exprs::finish` meets its contract: by whether there is something to record. Assumes nothing.
-use borrow.Author.Rules.{rules}
 use Rattle.exprs.proofs.Steps.{finish_answer, finish_table, refused_answer, refused_table}
 use Rattle.exprs.proofs.finish.Goals as goal
 

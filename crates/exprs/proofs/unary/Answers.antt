@@ -1,5 +1,4 @@
 -- `exprs::unary` meets its contract: by whether its expression was read. Assumes nothing.
-use borrow.Author.Rules.{rules}
 use Rattle.exprs.proofs.Steps.{unary_read, unary_refused}
 use Rattle.exprs.proofs.unary.Goals as goal
 
