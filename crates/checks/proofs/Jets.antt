@@ -71,9 +71,9 @@ record Later (p s : List ℕ) : Type 0 where
 -- ---- what is found is there
 
 first_there : {s q : List ℕ} {qs : List (List ℕ)} → Split s q qs → First q s
-first_there none = record { after = []; whole = refl; unbroken = Memᴰ.not_nil; ends = inl refl }
+first_there none = record { after = []; whole = refl; unbroken = Memᴰ.not-nil; ends = inl refl }
 first_there (newline {b} {s} e r) =
-    record { after = b ∷ s; whole = refl; unbroken = Memᴰ.not_nil; ends = inr (s, rw e) }
+    record { after = b ∷ s; whole = refl; unbroken = Memᴰ.not-nil; ends = inr (s, rw e) }
 first_there (byte {b} n r) =
     let f = first_there r in
     record {

@@ -132,6 +132,7 @@ module _ (checks : Checks) where
 
   pub expr_accepts : (d : ℕ) {us : List Token} {e : Expr} → IsExpr checks d us e → (rest : List Token) → expr checks d (us ++ rest) ≡ got e rest
   expr_accepts (suc d) k rest = expr_accepts_by d (λ us e. expr_accepts d) k rest
+  expr_accepts Prim.Native.Nat.zero {us = us} {e = e} k rest = elim k [ ]
 
   pub cmr_accepts : (d : ℕ) {us : List Token} {c : Cmr} → IsCmr checks d us c → (rest : List Token) → cmr checks (expr checks d) (us ++ rest) ≡ got c rest
   cmr_accepts d k rest = cmr_accepts_by d (λ us e. expr_accepts d) k rest
@@ -179,6 +180,7 @@ module _ (checks : Checks) where
 
   pub type_accepts : (d : ℕ) {us : List Token} {x : Ty} → IsType checks d us x → (rest : List Token) → Without operators rest → type checks d (us ++ rest) ≡ got x rest
   type_accepts (suc d) k rest w = type_accepts_by d (λ us x. type_accepts d) k rest w
+  type_accepts Prim.Native.Nat.zero {us = us} k rest w = elim k [ ]
 
   pub atom_accepts : (d : ℕ) {us : List Token} {x : Ty} → IsAtom checks d us x → (rest : List Token) → atom checks (type checks d) (us ++ rest) ≡ got x rest
   atom_accepts d k rest = atom_accepts_by d (λ us x. type_accepts d) k rest

@@ -30,9 +30,11 @@ same_append (t ∷ ts) s = first
 -- two rules that answer the same at the end; that answer the same where t comes next
 pub same_end : {A : Type 0} (p q : Rule A) → p [] ≡ q [] → (left : List Token) → Same [] left → p left ≡ q left
 same_end p q e [] s = e
+same_end {A = A} p q e (_ ∷ _) s = elim s [ ]
 
 pub same_first : {A : Type 0} (p q : Rule A) (t : Token) {ts : List Token} → ((left : List Token) → p (t ∷ left) ≡ q (t ∷ left)) → (left : List Token) → Same (t ∷ ts) left → p left ≡ q left
 same_first p q t e (u ∷ left) first = e left
+same_first {A = A} p q t {ts = ts} e [] x' = elim x' [ ]
 
 -- ---- what a rule answers
 

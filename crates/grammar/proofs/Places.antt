@@ -80,6 +80,7 @@ module _ (checks : Checks) where
 
   expr_made : (d : ℕ) {us : List Token} {e : Expr} → IsExpr checks d us e → Made us (part_of e)
   expr_made (suc d) k = expr_by_law d (λ us e. expr_made d) k
+  expr_made zero {us = us} {e = e} k = elim k [ ]
 
   pub line_made : {us : List Token} {l : Line} → IsLine checks us l → LineMade us l
   line_made (is.plain x t n i k) = line (behind t (expr_made _ k))
@@ -230,6 +231,7 @@ module _ (n : ℕ) where
 
     type_lies : (d : ℕ) {us : List Token} {x : Ty} → IsType checks d us x → Lie n us → (m : ℕ) → Each (TypeLies n) (type_records x m)
     type_lies (suc d) k = type_by d (λ us x. type_lies d) k
+    type_lies zero {us = us} k = elim k [ ]
 
     -- an arrow's types: its source's, then its target's
     arrow_lies : {us : List Token} {a : Arrow} → IsArrow checks us a → Lie n us → (m : ℕ) → Each (TypeLies n) (type_records a.source m ++ type_records a.target (m + type_weight a.source))

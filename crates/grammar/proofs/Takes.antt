@@ -85,6 +85,7 @@ module _ (checks : Checks) where
 
   type_holds : (d : ℕ) {us : List Token} {x : Ty} → IsType checks d us x → Holds (type_weight x) us
   type_holds (suc d) k = type_by d (λ us x. type_holds d) k
+  type_holds zero {us = us} k = elim k [ ]
 
   arrow_holds : {us : List Token} {a : Arrow} → IsArrow checks us a → Holds (arrow_weight a) us
   arrow_holds (is.arrow t h i k) =
@@ -114,6 +115,7 @@ module _ (checks : Checks) where
 
   expr_holds : (d : ℕ) {us : List Token} {e : Expr} → IsExpr checks d us e → Holds (weight (part_of e)) us
   expr_holds (suc d) k = expr_by_law d (λ us e. expr_holds d) k
+  expr_holds zero {us = us} {e = e} k = elim k [ ]
 
   line_holds : {us : List Token} {l : Line} → IsLine checks us l → Holds (exprs_of l) us × Holds (types_in_line l) us
   unfolding type_weight weight

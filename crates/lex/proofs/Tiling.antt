@@ -1,6 +1,6 @@
 -- A text that is lexed without refusal is tiled by its tokens and skips (`tiling`), a text so tiled within the limit is lexed
 -- into just these tokens (`tiles_lexed`), and tokens that tile lie inside, in order, without overlap. Assumes nothing.
-use Prim.Native.Nat.{ℕ, zero, suc, pred, ◌+◌, ◌-◌, ◌≤◌, ◌<◌}
+use Prim.Native.Nat.{ℕ, zero, suc, pred, ◌+◌, ◌≤◌, ◌<◌}
 use mathlib.Core.Bool.{Bool, true, false}
 use mathlib.Core.Path.{◌≡◌, refl, sym, ap, ◌∙◌}
 use mathlib.Core.List.{List, [], ◌∷◌, ◌++◌}

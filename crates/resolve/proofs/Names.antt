@@ -60,7 +60,7 @@ module _ (ls : List Line) where
   rows_set st n [] i m v h e = absurd (omega arith)
   rows_set st n (x ∷ xs) zero m v h e =
       let z : m ≡ n = omega arith in
-      rw (z, marked_same n v st, rows_past st (suc n) xs n v (omega arith))
+      rw (z, marked_same n v st, rows_past st (suc n) xs m v (omega arith))
   rows_set st n (x ∷ xs) (suc i) m v h e =
       let d : n ≢ m = omega arith in
       rw (marked_other m v st n d, rows_set st (suc n) xs i m v (omega arith) (omega arith))

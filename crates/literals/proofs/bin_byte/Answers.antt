@@ -1,6 +1,5 @@
 -- `literals::bin_byte` meets its contract: two nibbles of binary digits.
 use mathlib.Core.Path.{sym}
-use borrow.Author.Rules.{rules}
 use Rattle.literals.proofs.Packed.{bin_packed}
 use Rattle.literals.proofs.bin_byte.Goals as goal
 

@@ -1,5 +1,4 @@
 -- `literals::bit_length` meets its contract.
-use borrow.Author.Rules.{rules}
 use borrow.Author.Tests.{eq-eqb, ne_eqb}
 use Rattle.literals.specs.Literals.{bit_length}
 use Rattle.literals.proofs.bit_length.Goals as goal

@@ -1,5 +1,4 @@
 -- `literals::is_digits` meets its contract.
-use borrow.Author.Rules.{rules}
 use Rattle.literals.proofs.Packed.{digits_by_run}
 use Rattle.literals.proofs.is_digits.Goals as goal
 

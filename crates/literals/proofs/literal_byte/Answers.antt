@@ -1,6 +1,5 @@
 -- `literals::literal_byte` meets its contract.
 use mathlib.Core.Path.{sym, ◌∙◌}
-use borrow.Author.Rules.{rules}
 use Rattle.literals.proofs.Packed.{span_outside, span_inside}
 use Rattle.literals.proofs.literal_byte.Goals as goal
 

@@ -1,7 +1,6 @@
 -- `literals::text_byte` meets its contract: by the prefix.
 use mathlib.Core.Path.{sym, ◌∙◌}
 use native.Mathlib.Omega.{arith}
-use borrow.Author.Rules.{rules}
 use Rattle.literals.proofs.Packed.{digits_some, digits_every, text_bin, text_hex, text_none}
 use Rattle.literals.proofs.text_byte.Goals as goal
 
@@ -19,3 +18,15 @@ returns-then-is_digits c = c.bin_byte.ensures ∙ sym (text_bin _ _ (sym c.is_di
 
 pub returns-then-is_digits-2 : goal.returns-then-is_digits-2
 returns-then-is_digits-2 c = c.hex_byte.ensures ∙ sym (text_hex _ _ (sym c.is_digits.ensures ∙ c.if-is_digits.false) (sym c.is_digits-2.ensures ∙ c.if-is_digits-2.true))
+
+pub slice_bounds-bin_byte-count : goal.slice_bounds-bin_byte-count
+slice_bounds-bin_byte-count c = omega (arith, digits_some _ _ _ (sym c.is_digits.ensures ∙ c.if-is_digits.true))
+
+pub slice_bounds-bin_byte-start : goal.slice_bounds-bin_byte-start
+slice_bounds-bin_byte-start c = omega (arith, digits_some _ _ _ (sym c.is_digits.ensures ∙ c.if-is_digits.true))
+
+pub slice_bounds-hex_byte-count : goal.slice_bounds-hex_byte-count
+slice_bounds-hex_byte-count c = omega (arith, digits_some _ _ _ (sym c.is_digits-2.ensures ∙ c.if-is_digits-2.true))
+
+pub slice_bounds-hex_byte-start : goal.slice_bounds-hex_byte-start
+slice_bounds-hex_byte-start c = omega (arith, digits_some _ _ _ (sym c.is_digits-2.ensures ∙ c.if-is_digits-2.true))

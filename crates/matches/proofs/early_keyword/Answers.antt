@@ -1,6 +1,5 @@
 -- `matches::early_keyword` meets its contract: each call tries one keyword before those that come after it in the list.
 use mathlib.Core.Path.{ap, ◌∙◌}
-use borrow.Author.Rules.{rules}
 use Rattle.matches.specs.Code.{named, early_kind}
 use Rattle.matches.proofs.early_keyword.Goals as goal
 

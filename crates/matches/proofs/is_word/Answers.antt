@@ -1,5 +1,4 @@
 use Rattle.matches.specs.Code.{is_word}
-use borrow.Author.Rules.{rules}
 use Rattle.matches.proofs.is_word.Goals as goal
 
 pub returns : goal.returns

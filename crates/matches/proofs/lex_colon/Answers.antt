@@ -2,7 +2,6 @@
 use mathlib.Core.Path.{sym, ◌∙◌}
 use borrow.Author.Tests.{eq-eqb, ne_eqb}
 use Rattle.matches.proofs.Arms.{lex_colon}
-use borrow.Author.Rules.{rules}
 use Rattle.matches.proofs.lex_colon.Goals as goal
 
 pub returns-else-byte_at-eq61 : goal.returns-else-byte_at-eq61

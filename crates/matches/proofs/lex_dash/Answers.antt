@@ -2,7 +2,6 @@
 use mathlib.Core.Path.{sym, ◌∙◌}
 use borrow.Author.Tests.{eq-eqb, ne_eqb}
 use Rattle.matches.proofs.Arms.{lex_dash}
-use borrow.Author.Rules.{rules}
 use Rattle.matches.proofs.lex_dash.Goals as goal
 
 pub returns : goal.returns

@@ -2,7 +2,6 @@
 use mathlib.Core.Path.{sym, ◌∙◌}
 use borrow.Author.Tests.{eq-eqb, ne_eqb, le-leb, lt-leb}
 use Rattle.matches.proofs.Arms.{lex_hash}
-use borrow.Author.Rules.{rules}
 use Rattle.matches.proofs.lex_hash.Goals as goal
 
 pub returns : goal.returns

@@ -1,7 +1,6 @@
 -- `matches::lex_two` meets its contract: by the two bytes after it.
 use mathlib.Core.Path.{sym, ◌∙◌}
 use Rattle.matches.proofs.Arms.{lex_two}
-use borrow.Author.Rules.{rules}
 use Rattle.matches.proofs.lex_two.Goals as goal
 
 pub returns-else-b-d : goal.returns-else-b-d

@@ -2,7 +2,6 @@
 use mathlib.Core.Path.{sym, ◌∙◌}
 use borrow.Author.Tests.{eq-eqb, ne_eqb, lt-ltb, le-ltb}
 use Rattle.matches.proofs.Arms.{lex_zero}
-use borrow.Author.Rules.{rules}
 use Rattle.matches.proofs.lex_zero.Goals as goal
 
 pub returns : goal.returns

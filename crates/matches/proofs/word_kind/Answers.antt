@@ -1,6 +1,5 @@
 -- `matches::word_kind` meets its contract: the keywords in two halves, then as a jet.
 use mathlib.Core.Path.{ap, ◌∙◌}
-use borrow.Author.Rules.{rules}
 use Rattle.matches.specs.Code.{early_kind, late_kind, kind_of}
 use Rattle.matches.proofs.word_kind.Goals as goal
 

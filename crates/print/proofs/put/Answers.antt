@@ -1,12 +1,9 @@
 -- `print::put` meets its contract. The loop's invariant: what is still to be put, put into the output as it is now, gives the whole.
 -- Assumes nothing.
-use Prim.Native.Nat.{◌+◌, ◌-◌, ◌≤◌}
-use mathlib.Core.Path.{◌≡◌, refl, ap, ◌∙◌}
+use mathlib.Core.Path.{refl, ap, ◌∙◌}
 use native.Mathlib.Omega.{arith}
 use lib.ListN.{length, length-set}
-use borrow.Author.Rules.{rules}
-use Rattle.print.specs.Text.{listing_limit}
-use Rattle.print.proofs.Putting.{Putting, putting_none, putting_more, putting_done}
+use Rattle.print.proofs.Putting.{putting_none, putting_more, putting_done}
 use Rattle.print.proofs.put.Goals as goal
 
 pub loop-i-init : goal.loop-i-init

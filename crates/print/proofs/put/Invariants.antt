@@ -1,12 +1,10 @@
 -- `print::put` meets its contract. The loop's invariant: what is still to be put, put into the output as it is now, gives the whole.
 -- Assumes nothing.
 use Prim.Native.Nat.{◌+◌, ◌-◌, ◌≤◌}
-use mathlib.Core.Path.{◌≡◌, refl, ap, ◌∙◌}
-use native.Mathlib.Omega.{arith}
-use lib.ListN.{length, length-set}
-use borrow.Author.Rules.{rules}
+use mathlib.Core.Path.{◌≡◌}
+use lib.ListN.{length}
 use Rattle.print.specs.Text.{listing_limit}
-use Rattle.print.proofs.Putting.{Putting, putting_none, putting_more, putting_done}
+use Rattle.print.proofs.Putting.{Putting}
 use Rattle.print.proofs.put.Given as goal
 
 abbrev pub invariant-loop-i : goal.invariant-loop-i
