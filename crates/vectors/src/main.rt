@@ -5,7 +5,7 @@
 // from seed 1. `vectors check` compares it with the list made anew, and `vectors list` says what each case is about.
 #![tactic(auto)]
 
-ghost use Rattle.std.specs.Prelude.{◌<◌, ◌≤◌, ◌^◌, OnOk};
+ghost use Rattle.std.specs.Prelude.{◌<◌, ◌≤◌, ◌^◌};
 
 use compare::Tally;
 use std::io;
