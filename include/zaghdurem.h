@@ -1,6 +1,6 @@
 /* zaghdurem: the reader of Simplicity programs as people write them.
  *
- * Link libzaghdurem.a (`rt staticlib zaghdurem` makes it). Every function takes any arguments; nothing is to be tested by
+ * Link libzaghdurem.a (`rt lib` in crates/zaghdurem makes it). Every function takes any arguments; nothing is to be tested by
  * the caller. What each one answers is proved to be the definition that its comment names (docs/DEFINITIONS.md).
  * A slice passes as a pointer and then its length in elements; if the length is 0 the pointer is not read. A table that a
  * function writes lies apart from its other arguments. */

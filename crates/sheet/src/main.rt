@@ -1,10 +1,14 @@
 // The program `sheet`: reads jets.txt and standard input, and prints the sheet.
 #![tactic(auto)]
 
-ghost use Rattle.io.specs.Counts.{IsPrefixLen};
+ghost use Rattle.std.specs.Io.{ReadsAtMost};
 
-use libc::{STDIN_FILENO, STDOUT_FILENO};
 use records::limits::Limits;
+use std::fs::File;
+use std::io;
+use std::io::ErrorKind;
+use std::process::ExitCode;
+use std::rt::Files;
 
 // A byte more than a source may have, so that one that is too long is seen to be.
 const SOURCE: usize = Limits::SOURCE as usize + 1;
@@ -12,73 +16,46 @@ const SOURCE: usize = Limits::SOURCE as usize + 1;
 // A byte more than a jet list may have, likewise.
 const JETS: usize = sheets::JETS + 1;
 
-// How many bytes of an input there are, and whether it was read to its end or until the buffer was full.
-#[derive(Clone, Copy)]
-struct Input {
-    whole: bool,
-    len: usize,
-}
-
-// Whether there is nothing more to read: a read that fails is no end.
-fn at_end(fd: i32) -> bool {
-    let mut more = [0u8; 1];
-    libc::read(fd, &mut more) == 0
-}
-
-// Reads an open file.
-fn read_input(fd: i32, buf: &mut [u8]) -> Input
-    ensures { IsPrefixLen result.len buf.new }
-{
-    let len = io::read_full(fd, buf);
-    let whole = if len < buf.len() { at_end(fd) } else { true };
-    Input { whole, len }
-}
-
 // Reads jets.txt; a file that is absent is an empty list.
-fn read_jets(buf: &mut [u8]) -> Input
-    ensures { IsPrefixLen result.len buf.new }
+fn read_jets<R: Files>(rt: &R, buf: &mut [u8]) -> io::Result<usize>
+    ensures { ReadsAtMost result buf.new }
 {
-    let fd = os::open_read(b"jets.txt");
-    if fd < 0 {
-        return Input {
-            whole: os::errno() == libc::ENOENT,
-            len: 0,
-        };
+    match File::open(rt, "jets.txt") {
+        Ok(mut file) => inputs::read_full(&mut file, buf),
+        Err(error) if error.kind() == ErrorKind::NotFound => Ok(0),
+        Err(error) => Err(error),
     }
-    let jets = read_input(fd, buf);
-    libc::close(fd);
-    jets
 }
 
 // Prints the sheet of a source.
-fn print_sheet(source: &[u8], jets: &[u8]) {
+fn print_sheet<R: Print>(rt: &R, source: &[u8], jets: &[u8]) -> io::Result<ExitCode> {
     let mut out = [0u8; print::LISTING];
-    let n = sheets::fill_sheet(source, jets, &mut out);
-    io::write_all(STDOUT_FILENO, &out[..n]);
+    let len = sheets::fill_sheet(source, jets, &mut out);
+    rt.write_all(&out[..len])?;
+    Ok(ExitCode::SUCCESS)
+}
+
+// Says why an input cannot be read; nothing is printed then.
+fn fail<R: Eprint>(rt: &R, input: &str, error: io::Error) -> io::Result<ExitCode> {
+    eprintln!(rt; "sheet: {input}: {error}")?;
+    Ok(ExitCode::FAILURE)
 }
 
 // Reads standard input and prints its sheet.
-fn print_input(jets: &[u8]) {
+fn print_input<R: Input + Print + Eprint>(rt: &R, jets: &[u8]) -> io::Result<ExitCode> {
     let mut source = [0u8; SOURCE];
-    let input = read_input(STDIN_FILENO, &mut source);
-    if !input.whole {
-        os::fail(b"sheet: standard input");
-        return;
+    match inputs::read_full(&mut rt.reader(), &mut source) {
+        Ok(len) => print_sheet(rt, &source[..len], jets),
+        Err(error) => fail(rt, "standard input", error),
     }
-    let n = input.len;
-    print_sheet(&source[..n], jets);
 }
 
 // A list that is too long is refused before any look at the source.
-fn main() {
+fn main(rt: HostRuntime) -> io::Result<ExitCode> {
     let mut jets = [0u8; JETS];
-    let list = read_jets(&mut jets);
-    let n = list.len;
-    if !list.whole {
-        os::fail(b"sheet: jets.txt");
-    } else if sheets::JETS < n {
-        print_sheet(b"", &jets[..n]);
-    } else {
-        print_input(&jets[..n]);
+    match read_jets(&rt, &mut jets) {
+        Ok(len) if sheets::JETS < len => print_sheet(&rt, b"", &jets[..len]),
+        Ok(len) => print_input(&rt, &jets[..len]),
+        Err(error) => fail(&rt, "jets.txt", error),
     }
 }

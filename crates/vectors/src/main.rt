@@ -8,7 +8,8 @@
 ghost use Rattle.std.specs.Prelude.{◌<◌, ◌≤◌, ◌^◌};
 
 use compare::Tally;
-use libc::STDOUT_FILENO;
+use std::io;
+use std::rt::Files;
 
 mod compare;
 mod replayed;
@@ -18,34 +19,32 @@ mod stored;
 const CASES: u16 = 455;
 
 // Replays the case of this number. Each of its files is shorter than a buffer, so it is read to its end.
-fn replay(number: u16) -> Tally
+fn replay<R: Files>(rt: &R, number: u16) -> Tally
     requires { number < 1000 }
     ensures { (result.texts ≤ 1) × (result.places < 2 ^ 32) × (result.bad ≤ 1) }
 {
-    let mut source = io::large_buffer();
-    let s = stored::load(b'i', number, &mut source);
-    let mut bytes = io::large_buffer();
-    let t = stored::load(b't', number, &mut bytes);
-    if !(s.found & t.found) {
+    let mut source = [0u8; stored::LONGEST];
+    let Ok(n) = stored::load(rt, b'i', number, &mut source) else {
         return compare::bad();
-    }
-    let n = s.len;
-    let m = t.len;
+    };
+    let mut bytes = [0u8; stored::LONGEST];
+    let Ok(m) = stored::load(rt, b't', number, &mut bytes) else {
+        return compare::bad();
+    };
     let one = compare::compare(&source[..n], &bytes[..m]);
-    compare::judge(one, replayed::replay(&source[..n], number))
+    compare::judge(one, replayed::replay(rt, &source[..n], number))
 }
 
 // Says the number of a case that is bad.
-fn say(number: u16, one: Tally) {
+fn say<R: Print>(rt: &R, number: u16, one: Tally) -> io::Result<()> {
     if one.bad != 0 {
-        io::write_all(STDOUT_FILENO, b"bad ");
-        io::print_decimal(STDOUT_FILENO, number as u64);
-        io::write_all(STDOUT_FILENO, b"\n");
+        println!(rt; "bad {number}")?;
     }
+    Ok(())
 }
 
 // Replays the cases below this number.
-fn replay_all(cases: u16) -> Tally
+fn replay_all<R: Files + Print>(rt: &R, cases: u16) -> io::Result<Tally>
     requires { cases ≤ 1000 }
 {
     let mut all = Tally {
@@ -53,28 +52,16 @@ fn replay_all(cases: u16) -> Tally
         places: 0,
         bad: 0,
     };
-    let mut k: u16 = 0;
-    while k < cases {
-        let one = replay(k);
-        say(k, one);
+    for number in 0..cases {
+        let one = replay(rt, number);
+        say(rt, number, one)?;
         all = compare::add(all, one);
-        k += 1;
     }
-    all
+    Ok(all)
 }
 
-// Prints a number and what it counts.
-fn count(n: u64, of: &[u8]) {
-    io::print_decimal(STDOUT_FILENO, n);
-    io::write_all(STDOUT_FILENO, of);
-}
-
-fn main() {
-    let all = replay_all(CASES);
-    io::write_all(STDOUT_FILENO, b"vectors ");
-    count(CASES as u64, b": ");
-    count(all.texts, b" texts, ");
-    count(all.places, b" places, ");
-    count(CASES as u64, b" sheets, ");
-    count(all.bad, b" bad\n");
+fn main(rt: HostRuntime) -> io::Result<()> {
+    let all = replay_all(&rt, CASES)?;
+    let (texts, places, bad) = (all.texts, all.places, all.bad);
+    println!(rt; "vectors {CASES}: {texts} texts, {places} places, {CASES} sheets, {bad} bad")
 }

@@ -1,11 +1,18 @@
 // Reads a stored case: i/NNN is the source, and t/NNN the answer as little-endian words: number, place and value of the
 // refusal, the seven counts, the records of the seven tables, and the line and column of each token.
 ghost use Rattle.std.specs.Prelude.{◌<◌, ◌≤◌, ◌^◌};
-ghost use Rattle.io.specs.Counts.{IsPrefixLen};
+ghost use Rattle.std.specs.Io.{ReadsAtMost};
 
 use records::{
     ErrorRecord, ExprRecord, LineRecord, NameRecord, NodeRecord, TokenRecord, TypeRecord,
 };
+use std::fs::File;
+use std::io::ErrorKind;
+use std::rt::Files;
+use std::{io, str};
+
+// No stored file has so many bytes.
+pub(crate) const LONGEST: usize = 65536;
 
 // Which word holds what, and how many there are before the records. The counts follow each other.
 const NO: usize = 0;
@@ -17,13 +24,6 @@ const VALUE: usize = 2;
 const COUNTS: usize = 3;
 
 const HEAD: usize = 10;
-
-// Whether a file was there, and how many bytes of it were read.
-#[derive(Clone, Copy)]
-pub(crate) struct Loaded {
-    pub found: bool,
-    pub len: usize,
-}
 
 // A stored answer, with the word at which the places of the tokens begin.
 #[derive(Clone, Copy)]
@@ -41,10 +41,10 @@ fn digit(n: u16) -> u8
     b'0' + n as u8
 }
 
-// Reads the file of a case in the folder of this letter.
-pub(crate) fn load(folder: u8, number: u16, buf: &mut [u8]) -> Loaded
+// Reads the file of a case in the folder of this letter, and gives how many bytes of it there are.
+pub(crate) fn load<R: Files>(rt: &R, folder: u8, number: u16, buf: &mut [u8]) -> io::Result<usize>
     requires { number < 1000 }
-    ensures { IsPrefixLen result.len buf.new }
+    ensures { ReadsAtMost result buf.new }
 {
     let path = [
         folder,
@@ -53,16 +53,11 @@ pub(crate) fn load(folder: u8, number: u16, buf: &mut [u8]) -> Loaded
         digit(number / 10 % 10),
         digit(number % 10),
     ];
-    let fd = os::open_read(&path);
-    if fd < 0 {
-        return Loaded {
-            found: false,
-            len: 0,
-        };
-    }
-    let len = io::read_full(fd, buf);
-    libc::close(fd);
-    Loaded { found: true, len }
+    let Ok(path) = str::from_utf8(&path) else {
+        return Err(io::Error::from(ErrorKind::InvalidFilename));
+    };
+    let mut file = File::open(rt, path)?;
+    inputs::read_full(&mut file, buf)
 }
 
 fn byte(bytes: &[u8], i: usize) -> u32

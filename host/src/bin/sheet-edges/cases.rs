@@ -26,9 +26,9 @@ const PIPE: usize = 65_536;
 /// What must come of a run.
 #[derive(Clone)]
 pub enum Must {
-    /// This on standard output, nothing on standard error.
+    /// This on standard output, nothing on standard error, and status 0.
     Print(String),
-    /// Nothing on standard output, and on standard error a text that begins so.
+    /// Nothing on standard output, on standard error a text that begins so, and status 1.
     Fail(&'static str),
 }
 
@@ -47,10 +47,14 @@ impl Case {
             Ok(output) => output,
             Err(error) => return Some(format!("cannot be run: {error}")),
         };
-        let right = match &self.must {
-            Must::Print(text) => output.stdout == text.as_bytes() && output.stderr.is_empty(),
+        let (right, code) = match &self.must {
+            Must::Print(text) => {
+                let right = output.stdout == text.as_bytes() && output.stderr.is_empty();
+                (right, 0)
+            }
             Must::Fail(said) => {
-                output.stdout.is_empty() && output.stderr.starts_with(said.as_bytes())
+                let right = output.stdout.is_empty() && output.stderr.starts_with(said.as_bytes());
+                (right, 1)
             }
         };
         let wanted = match &self.must {
@@ -58,7 +62,7 @@ impl Case {
             Must::Fail(said) => format!("prints nothing and says \"{said}\""),
         };
         // a program that is killed has no code
-        (!right || output.status.code().is_none()).then(|| {
+        (!right || output.status.code() != Some(code)).then(|| {
             let (printed, said) = (front(&output.stdout), front(&output.stderr));
             let status = output.status;
             format!("not as wanted ({wanted}): prints \"{printed}\", says \"{said}\", {status}")

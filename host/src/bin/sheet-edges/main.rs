@@ -21,7 +21,7 @@ fn main() -> ExitCode {
         return ExitCode::from(2);
     };
     let Ok(path) = Path::new(path).canonicalize() else {
-        eprintln!("sheet-edges: {path} is missing; make it with `rt check sheet`");
+        eprintln!("sheet-edges: {path} is missing; make it with `rt run` in crates/sheet");
         return ExitCode::from(2);
     };
     oracle::with_stack(|| run(&Program::new(path)))
