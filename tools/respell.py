@@ -142,6 +142,8 @@ def main():
             new = re.sub(r"`[^`\n]*`", prose, text)
         else:
             new = WORD.sub(lambda w: camel.get(w[0], w[0]), text)
+            if path.endswith(".rt"):
+                new = re.sub(r"(?m)^ *(?:ghost|requires|ensures)\b.*$", lambda line: WORD.sub(lambda w: table.get(w[0], w[0]), line[0]), new)
             if path.endswith(".edit") and "file: specs" in text:
                 new = WORD.sub(lambda w: table.get(w[0], w[0]), new)
             new = re.sub(r"(?<![^\s{,])([a-z][\w]*) as \1(?=[,}\s;])", r"\1", new)
