@@ -1,4 +1,5 @@
 -- A part of the source as a span has the span's text.
+use Rattle.std.specs.Prelude.{if◌then◌else◌}
 use Prim.Native.Nat.{ℕ, ◌+◌}
 use mathlib.Core.Bool.{Bool, true, false}
 use mathlib.Core.Path.{◌≡◌, refl}
@@ -7,7 +8,6 @@ use native.Mathlib.Omega.{arith}
 use borrow.Author.Tests.{le-leb}
 use lib.Dec.{leb}
 use lib.ListN.{length}
-use Rattle.records.specs.Base.{if◌then◌else◌}
 use Rattle.records.specs.Records.{no_span}
 use Rattle.records.specs.declared.Span.{Span}
 use Rattle.literals.specs.Literals.{span_text}

@@ -1,6 +1,6 @@
 -- Document 01: what is read from the tables of a reading, for any words whatever.
-use Rattle.std.specs.Prelude.{ℕ, zero, suc, ◌+◌, ◌*◌, ◌-◌, Bool, ◌&&◌, List, eqb, leb, length}
-use Rattle.records.specs.Base.{if◌then◌else◌, within}
+use Rattle.std.specs.Prelude.{ℕ, zero, suc, ◌+◌, ◌*◌, ◌-◌, Bool, ◌&&◌, List, eqb, leb, length, if◌then◌else◌}
+use Rattle.records.specs.Base.{within}
 use Rattle.records.specs.Limits.{record_limit, name_width, node_width}
 use Rattle.records.specs.Records.{no_span}
 use Rattle.records.specs.declared.Span.{Span}

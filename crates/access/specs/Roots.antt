@@ -1,7 +1,6 @@
 -- Document 01, Names and nodes: roots.
-use Rattle.std.specs.Prelude.{Bool, false, List, [], ◌∷◌, eqb}
+use Rattle.std.specs.Prelude.{Bool, false, List, [], ◌∷◌, eqb, if◌then◌else◌}
 use Rattle.std.proofs.Math.Option.{Option, none, some}
-use Rattle.records.specs.Base.{if◌then◌else◌}
 use Rattle.records.specs.declared.NameRecord.{NameRecord}
 use Rattle.records.specs.declared.NodeRecord.{NodeRecord}
 use Rattle.walk.specs.Trees.{record_no}

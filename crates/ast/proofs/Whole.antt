@@ -1,4 +1,5 @@
 -- The answer for any source, any jet list and any tables, by the tests that came before it. Assumes nothing.
+use Rattle.std.specs.Prelude.{if◌then◌else◌}
 use Prim.Native.Nat.{ℕ, ◌*◌, ◌≤◌, ◌<◌}
 use mathlib.Core.Bool.{Bool, true, false, ◌||◌}
 use mathlib.Core.Path.{◌≡◌, refl, sym, ap, ◌∙◌}
@@ -7,7 +8,6 @@ use native.Mathlib.Omega.{arith}
 use lib.Dec.{ltb}
 use lib.ListN.{length, take}
 use borrow.Author.Tests.{ltb-false, le-ltb}
-use Rattle.records.specs.Base.{if◌then◌else◌}
 use Rattle.records.specs.Limits.{source_limit, record_limit, token_width, line_width, expr_width, type_width}
 use Rattle.tables.specs.Tables.{table_of}
 use Rattle.tables.proofs.Laws.{table_cleared, table_again, table_length}

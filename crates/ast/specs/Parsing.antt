@@ -1,6 +1,5 @@
 -- Document 01: the lines of a source, with refusals 1 to 13 in their order; and what the four tables hold then.
-use Rattle.std.specs.Prelude.{ℕ, ◌*◌, Bool, ◌||◌, List, [], ltb, length}
-use Rattle.records.specs.Base.{if◌then◌else◌}
+use Rattle.std.specs.Prelude.{ℕ, ◌*◌, Bool, ◌||◌, List, [], ltb, length, if◌then◌else◌}
 use Rattle.records.specs.Limits.{record_limit, token_width, line_width, expr_width, type_width}
 use Rattle.tables.specs.Tables.{table_of}
 use Rattle.lex.specs.Tokens.{Token, lexing, rows_of, lex_all}

@@ -1,5 +1,6 @@
 -- Where the name is the piece behind a newline, the jet list has its edges: that newline, the first byte, the last byte, a newline.
 -- So a block without such edges is passed. Assumes nothing.
+use Rattle.std.specs.Prelude.{if◌then◌else◌}
 use Prim.Native.Nat.{ℕ, zero, suc, ◌+◌, ◌-◌, ◌≤◌, ◌<◌}
 use mathlib.Core.Bool.{Bool, true, false, not, ◌||◌}
 use mathlib.Core.Path.{◌≡◌, refl, sym, ap, ◌∙◌}
@@ -9,7 +10,6 @@ use lib.Dec.{eqb}
 use lib.ListN.{length, drop, get_or, length-drop, get_or-eq_default}
 use lib.Seq.{get_or-drop}
 use borrow.Author.Tests.{eqb-true, eq-eqb}
-use Rattle.records.specs.Base.{if◌then◌else◌}
 use Rattle.records.proofs.Choices.{and_left, and_right}
 use Rattle.classes.specs.Classes.{word, starts, run}
 use Rattle.classes.specs.declared.Class.TheVariants.{NotLf}

@@ -1,4 +1,5 @@
 -- A jet is known exactly if its name is a piece of the list. Assumes nothing.
+use Rattle.std.specs.Prelude.{if◌then◌else◌}
 use Prim.Native.Nat.{ℕ}
 use mathlib.Core.Bool.{Bool, true, false, ◌||◌, or-true}
 use mathlib.Core.Logic.{◌⊎◌, inl, inr, ⊎_elim, ◌↔◌}
@@ -10,7 +11,6 @@ use lib.Dec.{eqb}
 use lib.ListN.{drop}
 use borrow.Author.Tests.{eq-eqb, eqb-true, eqb-false}
 use Rattle.records.proofs.Choices.{and_left, and_right, or_cases}
-use Rattle.records.specs.Base.{if◌then◌else◌}
 use Rattle.checks.specs.Jets.{Piece, pushed, pieces, same, is_one_of, known}
 
 -- ---- equal lists

@@ -1,4 +1,5 @@
 -- The jet list piece after piece, and newline after newline, as the code goes through it. Assumes nothing.
+use Rattle.std.specs.Prelude.{if◌then◌else◌}
 use Prim.Native.Nat.{ℕ, zero, suc, min, ◌+◌, ◌-◌, ◌≤◌, ◌<◌}
 use mathlib.Core.Bool.{Bool, true, false, not, ◌&&◌, ◌||◌, and-true, and-false, or-false}
 use mathlib.Core.Path.{◌≡◌, refl, sym, ◌∙◌}
@@ -10,7 +11,6 @@ use lib.Dec.{eqb, leb, leb-suc-zero, leb-suc-suc, eqb-zero-suc, eqb-suc-zero, eq
 use lib.ListN.{length, take, drop, drop_of_length-le}
 use lib.Seq.{drop-cons}
 use borrow.Author.Tests.{eqb-true, eqb-false, eq-eqb, ne_eqb}
-use Rattle.records.specs.Base.{if◌then◌else◌}
 use Rattle.classes.proofs.Laws.{part_rest, run_le}
 use Rattle.classes.specs.Classes.{word, starts, run}
 use Rattle.classes.specs.declared.Class.TheVariants.{NotLf}

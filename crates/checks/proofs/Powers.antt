@@ -1,4 +1,5 @@
 -- Powers of two, and the exponents that decimal digits say. Assumes nothing.
+use Rattle.std.specs.Prelude.{if◌then◌else◌}
 use Prim.Native.Nat.{ℕ, zero, suc, ◌+◌, ◌-◌, ◌*◌, ◌^◌, ◌≤◌, ◌<◌}
 use mathlib.Core.Bool.{Bool, true, false}
 use mathlib.Core.Path.{◌≡◌, refl, sym, ap, ◌∙◌}
@@ -10,7 +11,6 @@ use lib.Dec.{eqb, ltb}
 use lib.ListN.{length, drop, get_or, drop_of_length-le}
 use lib.Seq.{drop-cons}
 use borrow.Author.Tests.{eq-eqb, ne_eqb, eqb-true, eqb-false, lt-ltb, le-ltb, ltb-true, ltb-false}
-use Rattle.records.specs.Base.{if◌then◌else◌}
 use Rattle.checks.specs.declared.Log2.{Log2}
 use Rattle.checks.specs.declared.Log2.TheVariants.{Exactly, NoPower}
 use Rattle.checks.specs.declared.Fault.TheVariants.{NumberOutOfRange}

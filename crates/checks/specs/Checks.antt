@@ -1,7 +1,6 @@
 -- Document 01, Refusals 7 to 12: the tests on a token's kind and text. They are one record, so that the grammar knows neither
 -- the jet list nor what a text says; and the row of the table of refusals for each fault of the grammar.
-use Rattle.std.specs.Prelude.{ℕ, List, length, ltb}
-use Rattle.records.specs.Base.{if◌then◌else◌}
+use Rattle.std.specs.Prelude.{ℕ, List, length, ltb, if◌then◌else◌}
 use Rattle.records.specs.Refusals.{Refused, parse_failed, bad_word_length, short_fail, long_fail, unknown_jet, bad_power, big_exponent, too_deep}
 use Rattle.records.specs.declared.kinds.TokenKind.{TokenKind}
 use Rattle.literals.specs.Literals.{bit_length}

@@ -1,8 +1,7 @@
 -- Document 01: the jet list is text split at newline bytes (10); a jet is known exactly if the bytes after `jet_` equal one
 -- piece. Of this page the grammar sees `known` alone.
-use Rattle.std.specs.Prelude.{ℕ, Bool, true, false, ◌&&◌, ◌||◌, ◌⊎◌, ◌≡◌, drop, eqb}
+use Rattle.std.specs.Prelude.{ℕ, Bool, true, false, ◌&&◌, ◌||◌, ◌⊎◌, ◌≡◌, drop, eqb, if◌then◌else◌}
 use mathlib.Core.List.{List, [], ◌∷◌, ◌++◌, Memᴰ}
-use Rattle.records.specs.Base.{if◌then◌else◌}
 
 -- ---- what is right
 

@@ -1,6 +1,5 @@
 -- Document 01, Grammar: powers of two, and the exponent behind `2^`.
-use Rattle.std.specs.Prelude.{ℕ, zero, suc, ◌+◌, ◌-◌, ◌*◌, ◌^◌, ◌<◌, ◌≡◌, List, [], ◌∷◌, drop, eqb}
-use Rattle.records.specs.Base.{if◌then◌else◌}
+use Rattle.std.specs.Prelude.{ℕ, zero, suc, ◌+◌, ◌-◌, ◌*◌, ◌^◌, ◌<◌, ◌≡◌, List, [], ◌∷◌, drop, eqb, if◌then◌else◌}
 use Rattle.checks.specs.declared.Log2.{Log2}
 use Rattle.checks.specs.declared.Log2.TheVariants.{Exactly, NoPower}
 

@@ -1,4 +1,5 @@
 -- Laws of runs and of words at the front, in plain lists and numbers. Assumes nothing.
+use Rattle.std.specs.Prelude.{if◌then◌else◌}
 use Prim.Native.Nat.{ℕ, zero, suc, ◌+◌, ◌-◌, ◌≤◌, ◌<◌}
 use mathlib.Core.Bool.{Bool, true, false, ◌&&◌}
 use mathlib.Core.Path.{◌≡◌, refl, sym, ◌∙◌}
@@ -10,7 +11,6 @@ use lib.Seq.{drop-cons, take_all}
 use lib.Dec.{leb, ltb, leb-zero, leb-suc-zero, leb-suc-suc}
 use borrow.Author.Tests.{eq-eqb, ne_eqb, ltb-true, lt-ltb}
 use Rattle.records.proofs.Choices.{and_right}
-use Rattle.records.specs.Base.{if◌then◌else◌}
 use Rattle.classes.specs.declared.Class.{Class}
 use Rattle.classes.specs.Classes.{has, word, starts, run}
 

@@ -1,7 +1,7 @@
 -- Document 01, Tokens: classes of bytes, and how far the bytes of a class run.
-use Rattle.std.specs.Prelude.{ℕ, suc, Bool, true, false, not, ◌&&◌, ◌||◌, List, [], ◌∷◌, map, eqb}
+use Rattle.std.specs.Prelude.{ℕ, suc, Bool, true, false, not, ◌&&◌, ◌||◌, List, [], ◌∷◌, map, eqb, if◌then◌else◌}
 use Prim.Native.Char.{Char, code}
-use Rattle.records.specs.Base.{if◌then◌else◌, within}
+use Rattle.records.specs.Base.{within}
 use Rattle.classes.specs.declared.Class.{Class}
 use Rattle.classes.specs.declared.Class.TheVariants.{Byte, Bit, Digit, NonZero, LowHex, AnyHex, JetPart, SymbolFirst, SymbolPart, Blank, NotLf}
 

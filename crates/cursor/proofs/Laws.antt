@@ -1,5 +1,6 @@
 -- Laws of the tokens that a table holds: how many are left, the next one, what is left behind some of them, and that a table of
 -- tokens holds just them. Assumes nothing.
+use Rattle.std.specs.Prelude.{if◌then◌else◌}
 use Prim.Native.Nat.{ℕ, zero, suc, ◌+◌, ◌-◌, ◌≤◌, ◌<◌}
 use mathlib.Core.Bool.{Bool, true, false}
 use mathlib.Core.Path.{◌≡◌, refl, sym, ap, ◌∙◌}
@@ -10,7 +11,6 @@ use lib.ListN.{length, take, drop, get_or, length-append, length-drop}
 use lib.Dec.{leb}
 use lib.Seq.{length-take-le}
 use borrow.Author.Tests.{leb-true, le-leb}
-use Rattle.records.specs.Base.{if◌then◌else◌}
 use Rattle.records.specs.Limits.{record_limit, token_width}
 use Rattle.records.specs.Records.{token_words}
 use Rattle.tables.specs.Tables.{table_of, word_at}

@@ -1,6 +1,5 @@
 -- What the code's cursor says of the tokens that are left: the place of a refusal, the next token, a token that has to come.
-use Rattle.std.specs.Prelude.{ℕ, ◌+◌, ◌≤◌, ◌≡◌, List, [], ◌∷◌, eqb, ltb}
-use Rattle.records.specs.Base.{if◌then◌else◌}
+use Rattle.std.specs.Prelude.{ℕ, ◌+◌, ◌≤◌, ◌≡◌, List, [], ◌∷◌, eqb, ltb, if◌then◌else◌}
 use Rattle.records.specs.Limits.{record_limit}
 use Rattle.lex.specs.Tokens.{Token, record_of}
 use Rattle.checks.specs.declared.Fault.{Fault}

@@ -1,8 +1,7 @@
 // The Rust's `Parser`, as a cursor by value over a lent table of tokens. Each function takes any words.
 #![tactic(auto)]
 
-ghost use Rattle.std.specs.Prelude.{◌≡◌, ◌+◌, ◌≤◌, leb, length};
-ghost use Rattle.records.specs.Base.{if◌then◌else◌};
+ghost use Rattle.std.specs.Prelude.{◌≡◌, ◌+◌, ◌≤◌, leb, length, if◌then◌else◌};
 ghost use Rattle.records.specs.Limits.{source_limit};
 ghost use Rattle.lex.specs.Tokens.{record_of};
 ghost use Rattle.cursor.specs.Tokens.{token_at, token_of_kind, tokens_left};

@@ -1,5 +1,6 @@
 -- What holds of every reading without refusal: demand 3, that no root is lost, and that no table has more records than there are
 -- tokens. Each is had from the same said of the walk's nodes, whose records take over kind, children and span. Assumes nothing.
+use Rattle.std.specs.Prelude.{if◌then◌else◌}
 use Prim.Native.Nat.{ℕ, zero, suc, ◌+◌, ◌≤◌, ◌<◌}
 use mathlib.Core.Bool.{Bool, true, false}
 use mathlib.Core.Path.{◌≡◌, refl, sym, ap, subst, ◌∙◌}
@@ -10,7 +11,6 @@ use native.Mathlib.Omega.{arith}
 use native.Mathlib.Nat.{zero-add}
 use lib.Dec.{ltb}
 use lib.ListN.{length}
-use Rattle.records.specs.Base.{if◌then◌else◌}
 use Rattle.records.specs.Limits.{source_limit}
 use Rattle.records.specs.NodeKind as node
 use Rattle.records.specs.Refusals as refusal

@@ -1,7 +1,6 @@
 -- What the steps of the code answer for any words: what a node does to the table of errors. Nothing here is of document 01;
 -- proofs/Adding.antt shows that it gives the errors of the nodes.
-use Rattle.std.specs.Prelude.{ℕ, List, eqb}
-use Rattle.records.specs.Base.{if◌then◌else◌}
+use Rattle.std.specs.Prelude.{ℕ, List, eqb, if◌then◌else◌}
 use Rattle.records.specs.Limits.{node_width, error_width}
 use Rattle.records.specs.Records.{error_words}
 use Rattle.records.specs.NodeKind as node

@@ -1,8 +1,8 @@
 -- Document 01, Examples on the edge: P1 to P12, one table. Each row asks the lexer (P3, P4), the type reader (P6 to P8) or the reading
 -- (the others) and has the answer beside it. proofs/Twelve.antt: every row's answer is what comes.
-use Rattle.std.specs.Prelude.{ℕ, List, [], ◌∷◌, map}
+use Rattle.std.specs.Prelude.{ℕ, List, [], ◌∷◌, map, if◌then◌else◌}
 use Prim.Native.String.{String}
-use Rattle.records.specs.Base.{if◌then◌else◌, bytes}
+use Rattle.records.specs.Base.{bytes}
 use Rattle.records.specs.Limits.{depth_limit}
 use Rattle.records.specs.TokenKind as token
 use Rattle.records.specs.Refusals as refusals

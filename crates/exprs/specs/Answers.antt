@@ -1,7 +1,6 @@
 -- What the code answers for an expression and a CMR that the grammar reads: their numbers, the cursor behind them and their records
 -- in the table; and the answers of the functions on the way.
-use Rattle.std.specs.Prelude.{ℕ, ◌≡◌, List, [], ◌∷◌, map, eqb, length}
-use Rattle.records.specs.Base.{if◌then◌else◌}
+use Rattle.std.specs.Prelude.{ℕ, ◌≡◌, List, [], ◌∷◌, map, eqb, length, if◌then◌else◌}
 use Rattle.records.specs.Limits.{expr_width}
 use Rattle.records.specs.Records.{expr_words}
 use Rattle.records.specs.TokenKind as token

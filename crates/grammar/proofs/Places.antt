@@ -1,13 +1,13 @@
 -- The places of a file that is read rise with its tokens, so each is another one; and each place and span of a record lies in
 -- the source. Both follow from one relation: a part is made of tokens in order, its own, those of its left, those of its right,
 -- and tokens that leave no trace. Assumes nothing.
+use Rattle.std.specs.Prelude.{if◌then◌else◌}
 use Prim.Native.Nat.{ℕ, zero, suc, ◌+◌, ◌≤◌, ◌<◌}
 use mathlib.Core.Bool.{Bool, true, false}
 use mathlib.Core.Path.{◌≡◌, refl, sym, ap}
 use mathlib.Core.List.{List, [], ◌∷◌, ◌++◌, append-nil}
 use native.Mathlib.Omega.{arith}
 use lib.ListN.{length, get_or}
-use Rattle.records.specs.Base.{if◌then◌else◌}
 use Rattle.records.specs.NodeKind.{PartKind}
 use Rattle.records.specs.Records.{no_span}
 use Rattle.records.specs.declared.Span.{Span}

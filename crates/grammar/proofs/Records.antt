@@ -1,12 +1,12 @@
 -- A record refers only to records before it: a child's number is smaller than its parent's, and above the records that stand
 -- before the line's. A line's numbers are those of records that there are. Assumes nothing.
+use Rattle.std.specs.Prelude.{if◌then◌else◌}
 use Prim.Native.Nat.{ℕ, zero, suc, ◌+◌, ◌≤◌, ◌<◌}
 use mathlib.Core.Bool.{Bool, true, false}
 use mathlib.Core.Path.{◌≡◌, refl}
 use mathlib.Core.List.{List, [], ◌∷◌, ◌++◌, append_assoc}
 use native.Mathlib.Omega.{arith}
 use lib.ListN.{length, get_or, length-append}
-use Rattle.records.specs.Base.{if◌then◌else◌}
 use Rattle.records.specs.TypeKind as kind
 use Rattle.records.specs.declared.ExprRecord.{ExprRecord}
 use Rattle.records.specs.declared.TypeRecord.{TypeRecord}

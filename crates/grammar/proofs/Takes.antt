@@ -1,6 +1,7 @@
 -- What a rule takes of the tokens: at least one, and at least as many as there are records of what it gives. So lines,
 -- expressions and types are each no more than the tokens passed. A rule that stops has taken some of the tokens, too.
 -- Assumes nothing.
+use Rattle.std.specs.Prelude.{if◌then◌else◌}
 use Prim.Native.Nat.{ℕ, zero, suc, ◌+◌, ◌≤◌, ◌<◌}
 use mathlib.Core.Bool.{Bool, true, false}
 use mathlib.Core.Path.{◌≡◌, refl, ap}
@@ -8,7 +9,6 @@ use mathlib.Core.List.{List, [], ◌∷◌, ◌++◌}
 use mathlib.Core.Option.{none, some}
 use native.Mathlib.Omega.{arith}
 use lib.ListN.{length, length-append}
-use Rattle.records.specs.Base.{if◌then◌else◌}
 use Rattle.records.specs.declared.TypeRecord.{TypeRecord}
 use Rattle.lex.specs.Tokens.{Token}
 use Rattle.checks.specs.declared.Fault.{Fault}

@@ -1,8 +1,7 @@
 -- Document 01, Sizes and Grammar: the records of expressions, types and lines, from the trees. Records are made when complete,
 -- children first, left before right. `before` is how many records stand before them: a record's number is the count so far
 -- plus one, so what is recorded last has the count as its number.
-use Rattle.std.specs.Prelude.{ℕ, ◌+◌, List, [], ◌∷◌, ◌++◌, map}
-use Rattle.records.specs.Base.{if◌then◌else◌}
+use Rattle.std.specs.Prelude.{ℕ, ◌+◌, List, [], ◌∷◌, ◌++◌, map, if◌then◌else◌}
 use Rattle.records.specs.Records.{line_words, expr_words, type_words}
 use Rattle.records.specs.NodeKind as node
 use Rattle.records.specs.TypeKind as kind

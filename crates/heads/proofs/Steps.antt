@@ -1,4 +1,5 @@
 -- What each small function answers, by the tests and the matches that came before it. Assumes nothing.
+use Rattle.std.specs.Prelude.{if◌then◌else◌}
 use Prim.Native.Nat.{ℕ, ◌+◌, ◌≤◌}
 use mathlib.Core.Bool.{Bool, true, false, ◌||◌}
 use mathlib.Core.Path.{◌≡◌, refl, sym, ap, ◌∙◌}
@@ -7,7 +8,6 @@ use native.Mathlib.Omega.{arith}
 use lib.Dec.{eqb, leb}
 use lib.ListN.{length}
 use borrow.Author.Tests.{leb-true}
-use Rattle.records.specs.Base.{if◌then◌else◌}
 use Rattle.records.specs.TokenKind as token
 use Rattle.records.specs.Records.{no_span}
 use Rattle.records.specs.declared.Span.{Span}

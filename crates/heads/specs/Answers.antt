@@ -1,7 +1,6 @@
 -- What begins an expression: the answers of the functions that look at its first tokens, beside what the grammar says of them; and
 -- the record of an expression whose parts are numbers.
-use Rattle.std.specs.Prelude.{ℕ, ◌+◌, ◌≡◌, List, [], ◌∷◌, map, length}
-use Rattle.records.specs.Base.{if◌then◌else◌}
+use Rattle.std.specs.Prelude.{ℕ, ◌+◌, ◌≡◌, List, [], ◌∷◌, map, length, if◌then◌else◌}
 use Rattle.records.specs.TokenKind as token
 use Rattle.records.specs.NodeKind as node
 use Rattle.records.specs.Records.{no_span}

@@ -1,4 +1,5 @@
 -- The loop over a text: the tokens met so far, their table, and what is still to lex. Assumes nothing.
+use Rattle.std.specs.Prelude.{if◌then◌else◌}
 use Prim.Native.Nat.{ℕ, zero, suc, pred, ◌+◌, ◌≤◌, ◌<◌}
 use mathlib.Core.Bool.{Bool, true, false}
 use mathlib.Core.Path.{◌≡◌, refl, sym, ap, ◌∙◌}
@@ -10,7 +11,6 @@ use lib.Dec.{ltb}
 use lib.ListN.{length, take, drop, length-append, length-drop, length-map, drop_of_length-le}
 use lib.Seq.{drop-drop, length-take-le}
 use borrow.Author.Tests.{lt-ltb, le-ltb, ltb-true, ltb-false}
-use Rattle.records.specs.Base.{if◌then◌else◌}
 use Rattle.records.specs.Limits.{record_limit, token_width}
 use Rattle.records.specs.Records.{token_words}
 use Rattle.records.specs.declared.kinds.TokenKind.{TokenKind}

@@ -1,5 +1,6 @@
 -- A text that is lexed without refusal is tiled by its tokens and skips (`tiling`), a text so tiled within the limit is lexed
 -- into just these tokens (`tiles_lexed`), and tokens that tile lie inside, in order, without overlap. Assumes nothing.
+use Rattle.std.specs.Prelude.{if◌then◌else◌}
 use Prim.Native.Nat.{ℕ, zero, suc, pred, ◌+◌, ◌≤◌, ◌<◌}
 use mathlib.Core.Bool.{Bool, true, false}
 use mathlib.Core.Path.{◌≡◌, refl, sym, ap, ◌∙◌}
@@ -10,7 +11,6 @@ use lib.Dec.{ltb}
 use lib.ListN.{length, take, drop, length-append, length-drop, take-append-drop}
 use lib.Seq.{length-take-le, take-append_seam, drop-append_seam, drop-drop}
 use borrow.Author.Tests.{ltb-true, ltb-false}
-use Rattle.records.specs.Base.{if◌then◌else◌}
 use Rattle.records.specs.Limits.{record_limit}
 use Rattle.records.specs.declared.kinds.TokenKind.{TokenKind}
 use Rattle.matches.specs.declared.Lexed.{Lexed}

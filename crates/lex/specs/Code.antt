@@ -1,7 +1,6 @@
 -- One step of the code: where lexing goes on, and the table then. No rules of its own: proofs/Going.antt shows that the steps
 -- give the tokens of `lexing`.
-use Rattle.std.specs.Prelude.{ℕ, ◌+◌, List, ltb}
-use Rattle.records.specs.Base.{if◌then◌else◌}
+use Rattle.std.specs.Prelude.{ℕ, ◌+◌, List, ltb, if◌then◌else◌}
 use Rattle.records.specs.Limits.{record_limit, token_width}
 use Rattle.records.specs.Records.{token_words}
 use Rattle.records.specs.declared.kinds.TokenKind.{TokenKind}

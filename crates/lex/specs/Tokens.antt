@@ -1,7 +1,6 @@
 -- Document 01, Tokens and Refusals: all tokens of a source, or refusal 4 or 5, whichever is met first from the left; before
 -- them refusals 1, 2 and 3; and the token table.
-use Rattle.std.specs.Prelude.{ℕ, zero, suc, pred, ◌*◌, List, [], ◌∷◌, ◌++◌, map, length, take, ltb}
-use Rattle.records.specs.Base.{if◌then◌else◌}
+use Rattle.std.specs.Prelude.{ℕ, zero, suc, pred, ◌*◌, List, [], ◌∷◌, ◌++◌, map, length, take, ltb, if◌then◌else◌}
 use Rattle.records.specs.Limits.{source_limit, record_limit, token_width}
 use Rattle.records.specs.Records.{token_words}
 use Rattle.records.specs.Refusals.{short_table, long_source, not_utf8, no_token, too_many_tokens, row_of, no_row}

@@ -2,11 +2,10 @@
 use Prim.Native.Nat.{ℕ, ◌+◌}
 use mathlib.Core.Bool.{Bool, true, false}
 use mathlib.Core.Path.{◌≡◌, sym, ap, ◌∙◌}
-use mathlib.Core.List.{List, [], ◌∷◌}
+use mathlib.Core.List.{List, ◌∷◌}
 use lib.Dec.{eqb}
 use lib.ListN.{length}
 use borrow.Author.Tests.{eq-eqb, ne_eqb}
-use Rattle.records.specs.Base.{if◌then◌else◌}
 use Rattle.records.specs.TokenKind as token
 use Rattle.records.specs.declared.Span.{Span}
 use Rattle.records.specs.declared.TokenRecord.{TokenRecord}

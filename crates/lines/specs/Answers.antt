@@ -1,7 +1,6 @@
 -- What the code answers for a line that the grammar reads: its record, the cursor behind it, and the records of its expression and
 -- its types in the tables; and the answers of the functions on the way.
-use Rattle.std.specs.Prelude.{ℕ, ◌+◌, ◌<◌, ◌≡◌, List, [], ◌∷◌, map, eqb, length}
-use Rattle.records.specs.Base.{if◌then◌else◌}
+use Rattle.std.specs.Prelude.{ℕ, ◌<◌, ◌≡◌, List, [], ◌∷◌, map, eqb, length, if◌then◌else◌}
 use Rattle.records.specs.Limits.{expr_width, type_width}
 use Rattle.records.specs.Records.{type_words}
 use Rattle.records.specs.TokenKind as token

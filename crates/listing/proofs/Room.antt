@@ -1,5 +1,6 @@
 -- What is read from a source can be listed: its listing does not go past `listing_limit`, since the texts of names, of the named nodes
 -- and of errors are each together no longer than the source.
+use Rattle.std.specs.Prelude.{if◌then◌else◌}
 use Prim.Native.Nat.{ℕ, zero, suc, ◌+◌, ◌≤◌}
 use mathlib.Core.Path.{◌≡◌, refl, sym, ap, ◌∙◌}
 use mathlib.Core.Bool.{Bool, true, false}
@@ -9,7 +10,6 @@ use native.Mathlib.Omega.{arith}
 use lib.Dec.{leb, ltb}
 use lib.ListN.{length, take, drop, length-map, length-take}
 use borrow.Author.Tests.{ltb-false}
-use Rattle.records.specs.Base.{if◌then◌else◌}
 use Rattle.records.specs.Limits.{source_limit, record_limit}
 use Rattle.records.specs.Refusals.{short_table, long_source, row_of}
 use Rattle.records.specs.declared.Span.{Span}

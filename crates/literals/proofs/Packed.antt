@@ -1,4 +1,5 @@
 -- The bytes of a literal, from its digits. Assumes nothing.
+use Rattle.std.specs.Prelude.{if◌then◌else◌}
 use Prim.Native.Nat.{ℕ, zero, suc, ◌+◌, ◌-◌, ◌*◌, ◌/◌, ◌%◌, ◌≤◌, ◌<◌}
 use mathlib.Core.Bool.{Bool, true, false, ◌&&◌, and-false}
 use mathlib.Core.Path.{◌≡◌, refl, ap, ◌∙◌}
@@ -11,7 +12,7 @@ use lib.ListN.{length, take, drop, get_or, replicate}
 use lib.Seq.{drop-nil, get_or-drop}
 use borrow.Author.Tests.{ltb-true, le-leb, lt-leb}
 use Rattle.records.proofs.Choices.{and_left, and_right, or_cases, within_low, within_high}
-use Rattle.records.specs.Base.{if◌then◌else◌, bytes, within}
+use Rattle.records.specs.Base.{bytes, within}
 use Rattle.records.specs.declared.Span.{Span}
 use Rattle.tables.specs.Tables.{joined}
 use Rattle.classes.proofs.Laws.{part_rest}

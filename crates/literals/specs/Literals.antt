@@ -1,7 +1,7 @@
 -- Document 01, Grammar: the lengths of literals, and their packed bytes.
-use Rattle.std.specs.Prelude.{ℕ, ◌+◌, ◌-◌, ◌*◌, ◌/◌, ◌%◌, Bool, true, ◌&&◌, length, take, drop, replicate, eqb, leb, ltb}
+use Rattle.std.specs.Prelude.{ℕ, ◌+◌, ◌-◌, ◌*◌, ◌/◌, ◌%◌, Bool, true, ◌&&◌, length, take, drop, replicate, eqb, leb, ltb, if◌then◌else◌}
 use mathlib.Core.List.{List, [], ◌∷◌, ◌++◌, map, foldl}
-use Rattle.records.specs.Base.{if◌then◌else◌, bytes}
+use Rattle.records.specs.Base.{bytes}
 use Rattle.records.specs.TokenKind as token
 use Rattle.records.specs.declared.kinds.TokenKind.{TokenKind}
 use Rattle.records.specs.declared.Span.{Span}

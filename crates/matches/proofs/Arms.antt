@@ -1,4 +1,5 @@
 -- What the rows give, by the first byte. Assumes nothing.
+use Rattle.std.specs.Prelude.{if◌then◌else◌}
 use Prim.Native.Nat.{ℕ, zero, suc, ◌+◌, ◌≤◌, ◌<◌}
 use mathlib.Core.Bool.{Bool, true, false, not, ◌&&◌, ◌||◌, and-true, and-false}
 use mathlib.Core.Path.{◌≡◌, refl, sym, ap, ◌∙◌}
@@ -11,7 +12,7 @@ use lib.Seq.{drop-drop}
 use lib.Dec.{eqb, leb, ltb}
 use borrow.Author.Tests.{ne_eqb, eqb-true, eqb-false, le-leb, lt-leb, lt-ltb}
 use Rattle.records.proofs.Choices.{and_left, and_right, within_low, within_high}
-use Rattle.records.specs.Base.{if◌then◌else◌, within, bytes}
+use Rattle.records.specs.Base.{within, bytes}
 use Rattle.records.specs.TokenKind as token
 use Rattle.classes.specs.Classes.{has, word, starts, run}
 use Rattle.classes.proofs.Laws.{run_mono, counted, starts_replicate, starts_append}

@@ -1,8 +1,8 @@
 -- How the code finds what the rows give: by the first byte, and the kind of n bytes that are a symbol by the keywords, then
 -- as a jet. No rules of their own: proofs/Arms.antt shows that they give the rows' answer.
-use Rattle.std.specs.Prelude.{ℕ, ◌+◌, ◌<◌, Bool, ◌&&◌, ◌≡◌, List, [], ◌∷◌, length, take, drop, get_or, eqb, leb}
+use Rattle.std.specs.Prelude.{ℕ, ◌+◌, ◌<◌, Bool, ◌&&◌, ◌≡◌, List, [], ◌∷◌, length, take, drop, get_or, eqb, leb, if◌then◌else◌}
 use Prim.Native.Char.{Char, code}
-use Rattle.records.specs.Base.{if◌then◌else◌, bytes}
+use Rattle.records.specs.Base.{bytes}
 use Rattle.records.specs.TokenKind as token
 use Rattle.classes.specs.Classes.{word, starts, run}
 use Rattle.classes.specs.declared.Class.TheVariants.{JetPart}

@@ -1,7 +1,6 @@
 -- Document 01, Tokens: the longest match wins, by computing (proofs/Longest.antt: it is just what Sets.antt declares).
-use Rattle.std.specs.Prelude.{ℕ, ◌+◌, ◌&&◌, List, [], ◌∷◌, length, drop, leb, ltb}
+use Rattle.std.specs.Prelude.{ℕ, ◌+◌, ◌&&◌, List, [], ◌∷◌, length, drop, leb, ltb, if◌then◌else◌}
 use Rattle.std.proofs.Math.Option.{Option, none, some}
-use Rattle.records.specs.Base.{if◌then◌else◌}
 use Rattle.records.specs.TokenKind as token
 use Rattle.classes.specs.Classes.{starts, run}
 use Rattle.matches.specs.declared.Lexed.{Lexed}

@@ -1,8 +1,7 @@
 // What stands at the front of a text: the longest match of a token or a skip, the Rust's `Token`.
 #![tactic(auto)]
 
-ghost use Rattle.std.specs.Prelude.{◌≡◌, ◌<◌, length, get_or};
-ghost use Rattle.records.specs.Base.{if◌then◌else◌};
+ghost use Rattle.std.specs.Prelude.{◌≡◌, ◌<◌, length, get_or, if◌then◌else◌};
 ghost use Rattle.matches.specs.Longest.{lex_at};
 ghost use Rattle.matches.specs.Code.{is_word, is_jet, named as named_kind, late_kind, early_kind, kind_of, Begins, keys, NotIn};
 

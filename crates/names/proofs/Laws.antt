@@ -1,5 +1,6 @@
 -- Names by text: a text is found under the number of the first name that has it, no two names have the same text, and the names
 -- are the texts with a legal line, each by the token of its first one.
+use Rattle.std.specs.Prelude.{if◌then◌else◌}
 use Prim.Native.Nat.{ℕ, zero, suc, ◌+◌, ◌≤◌, ◌<◌}
 use mathlib.Core.Path.{◌≡◌, refl, sym, ap, subst, ◌∙◌}
 use mathlib.Core.Bool.{Bool, true, false}
@@ -9,7 +10,6 @@ use native.Mathlib.Omega.{arith}
 use lib.ListN.{length, get_or, length-append}
 use lib.Dec.{eqb}
 use borrow.Author.Tests.{eqb-true, eq-eqb}
-use Rattle.records.specs.Base.{if◌then◌else◌}
 use Rattle.lex.specs.Tokens.{Token}
 use Rattle.checks.specs.Jets.{same}
 use Rattle.checks.proofs.Jets.{same_self, same_equal}

@@ -1,4 +1,5 @@
 -- Names, first expressions and errors of lines with one line more at the end. Assumes nothing.
+use Rattle.std.specs.Prelude.{if◌then◌else◌}
 use Prim.Native.Nat.{ℕ, ◌+◌, ◌≤◌}
 use mathlib.Core.Bool.{Bool, true, false}
 use mathlib.Core.Path.{◌≡◌, refl, ◌∙◌}
@@ -8,7 +9,6 @@ use mathlib.Core.Option.{Option, none, some}
 use native.Mathlib.Omega.{arith}
 use native.Mathlib.Nat.{add-zero, add_assoc}
 use lib.ListN.{length, length-append}
-use Rattle.records.specs.Base.{if◌then◌else◌}
 use Rattle.checks.specs.Jets.{same}
 use Rattle.grammar.specs.Tree.{Expr, Line}
 use Rattle.grammar.specs.Recorded.{exprs_of}

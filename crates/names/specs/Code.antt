@@ -1,7 +1,6 @@
 -- What the steps of the code answer for any words: what a line does to the tables of names and errors. Nothing here is of
 -- document 01; proofs/Entering.antt shows that it gives the names and errors of the lines.
-use Rattle.std.specs.Prelude.{ℕ, ◌≡◌, List, eqb}
-use Rattle.records.specs.Base.{if◌then◌else◌}
+use Rattle.std.specs.Prelude.{ℕ, ◌≡◌, List, eqb, if◌then◌else◌}
 use Rattle.records.specs.Limits.{line_width, expr_width, name_width, error_width}
 use Rattle.records.specs.Records.{name_words, error_words}
 use Rattle.records.specs.ErrorKind as error

@@ -1,10 +1,9 @@
 -- Document 01, Names and nodes, by text: the names of a program, the expression and the types that count for each, and the
 -- errors of lines. The Rust's step 1.
-use Rattle.std.specs.Prelude.{ℕ, ◌+◌, eqb}
+use Rattle.std.specs.Prelude.{ℕ, ◌+◌, eqb, if◌then◌else◌}
 use mathlib.Core.List.{List, [], ◌∷◌, ◌++◌, map, foldl}
 use Rattle.std.proofs.Math.Option
 use Rattle.std.proofs.Math.Option.{Option, none, some}
-use Rattle.records.specs.Base.{if◌then◌else◌}
 use Rattle.records.specs.ErrorKind as error
 use Rattle.records.specs.Records.{name_words, error_words}
 use Rattle.records.specs.declared.Span.{Span}

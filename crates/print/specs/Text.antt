@@ -1,7 +1,7 @@
 -- Document 01, Listing: the words of a row.
-use Rattle.std.specs.Prelude.{ℕ, zero, suc, ◌+◌, ◌/◌, ◌%◌, ◌≡◌, List, [], ◌∷◌, ◌++◌, ltb, length}
+use Rattle.std.specs.Prelude.{ℕ, zero, suc, ◌+◌, ◌/◌, ◌%◌, ◌≡◌, List, [], ◌∷◌, ◌++◌, ltb, length, if◌then◌else◌}
 use Rattle.std.proofs.lemmas.List.Edits.{sets}
-use Rattle.records.specs.Base.{if◌then◌else◌, bytes}
+use Rattle.records.specs.Base.{bytes}
 use Rattle.text.specs.declared.Position.{Position}
 
 -- the decimal digits of n, if it has no more than so many

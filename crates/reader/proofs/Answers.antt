@@ -1,4 +1,5 @@
 -- The reading as the code answers it: by the lexer's answer; and the lists of records as the layers below have them.
+use Rattle.std.specs.Prelude.{if◌then◌else◌}
 use Prim.Native.Nat.{ℕ, suc, ◌*◌, ◌≤◌}
 use mathlib.Core.Bool.{Bool, true, false, ◌||◌}
 use mathlib.Core.Path.{◌≡◌, refl, sym, ap, ◌∙◌}
@@ -6,7 +7,6 @@ use mathlib.Core.List.{List, [], ◌∷◌, map-map}
 use lib.ListN.{length, length-map}
 use borrow.Author.Tests.{le-ltb}
 use lib.Dec.{ltb}
-use Rattle.records.specs.Base.{if◌then◌else◌}
 use Rattle.records.specs.Limits.{record_limit, token_width, name_width, node_width, error_width, work_width, source_limit}
 use Rattle.records.specs.Records.{token_words, error_words}
 use Rattle.records.specs.Refusals as refusal

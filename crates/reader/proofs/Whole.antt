@@ -1,4 +1,5 @@
 -- The answer for any source, any jet list and any tables, by the tests that came before it.
+use Rattle.std.specs.Prelude.{if◌then◌else◌}
 use Prim.Native.Nat.{ℕ, ◌*◌, ◌≤◌}
 use mathlib.Core.Bool.{Bool, true, false, ◌||◌}
 use mathlib.Core.Path.{◌≡◌, refl, sym, ap, subst, ◌∙◌}
@@ -7,7 +8,6 @@ use native.Mathlib.Omega.{arith}
 use lib.Dec.{ltb}
 use lib.ListN.{length}
 use borrow.Author.Tests.{ltb-false}
-use Rattle.records.specs.Base.{if◌then◌else◌}
 use Rattle.records.specs.Limits.{record_limit, name_width, node_width, error_width, work_width}
 use Rattle.tables.specs.Tables.{table_of}
 use Rattle.lex.specs.Tokens.{Token, lexing}

@@ -1,6 +1,5 @@
 -- Document 01: what a source says, and what eight lent tables hold then.
-use Rattle.std.specs.Prelude.{ℕ, ◌*◌, Bool, ◌||◌, List, [], map, ltb, length}
-use Rattle.records.specs.Base.{if◌then◌else◌}
+use Rattle.std.specs.Prelude.{ℕ, ◌*◌, Bool, ◌||◌, List, [], map, ltb, length, if◌then◌else◌}
 use Rattle.records.specs.Limits.{source_limit, record_limit, token_width, line_width, expr_width, type_width, name_width, node_width, error_width, work_width}
 use Rattle.records.specs.Records.{token_words, line_words, expr_words, type_words, name_words, node_words, error_words}
 use Rattle.records.specs.Refusals as refusal

@@ -1,11 +1,12 @@
 -- Laws of tests and of choices by a test. Assumes nothing.
+use Rattle.std.specs.Prelude.{if◌then◌else◌}
 use Prim.Native.Nat.{ℕ, ◌≤◌}
 use mathlib.Core.Bool.{Bool, true, false, ◌&&◌, ◌||◌}
 use mathlib.Core.Path.{◌≡◌, refl, sym}
 use mathlib.Core.Logic.{◌⊎◌, inl, inr}
 use lib.Dec.{leb}
 use borrow.Author.Tests.{leb-true}
-use Rattle.records.specs.Base.{if◌then◌else◌, within}
+use Rattle.records.specs.Base.{within}
 
 pub and_left : (p q : Bool) → p && q ≡ true → p ≡ true
 and_left true q e = refl

@@ -1,6 +1,7 @@
 -- Two principles for every rule of the grammar, each kept by every way to build a rule. A rule refuses by M if, where it stops,
 -- the tokens that it accepted, those that are left and the fault are of M. A rule leaves P if what it gives and the tokens that
 -- it leaves are of P. Assumes nothing.
+use Rattle.std.specs.Prelude.{if◌then◌else◌}
 use Prim.Native.Nat.{ℕ, zero, suc, ◌≤◌}
 use mathlib.Core.Bool.{Bool, true, false}
 use mathlib.Core.Path.{◌≡◌, refl}
@@ -8,7 +9,6 @@ use mathlib.Core.List.{List, [], ◌∷◌, ◌++◌, append_assoc}
 use mathlib.Core.Option.{Option, none, some}
 use native.Mathlib.Omega.{arith}
 use lib.ListN.{length}
-use Rattle.records.specs.Base.{if◌then◌else◌}
 use Rattle.records.specs.TokenKind as token
 use Rattle.lex.specs.Tokens.{Token}
 use Rattle.checks.specs.declared.Fault.{Fault}

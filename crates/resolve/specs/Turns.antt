@@ -1,6 +1,5 @@
 -- What the words of the walk stand for: a configuration of the machine of walk/specs/Machine.antt.
-use Rattle.std.specs.Prelude.{ℕ, suc, ◌+◌, ◌*◌, ◌-◌, ◌≤◌, Bool, true, false, ◌||◌, not, ◌≡◌, ◌≢◌, List, [], ◌∷◌, map, length, get_or, eqb}
-use Rattle.records.specs.Base.{if◌then◌else◌}
+use Rattle.std.specs.Prelude.{ℕ, suc, ◌+◌, ◌*◌, ◌-◌, ◌≤◌, Bool, true, false, ◌||◌, not, ◌≡◌, ◌≢◌, List, [], ◌∷◌, map, length, get_or, eqb, if◌then◌else◌}
 use Rattle.records.specs.Limits.{record_limit, expr_width, name_width, node_width, work_width}
 use Rattle.records.specs.NodeKind as node
 use Rattle.records.specs.Records.{name_words, node_words}

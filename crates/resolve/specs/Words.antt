@@ -1,6 +1,6 @@
 -- What single functions of the walk read and make, for any words.
-use Rattle.std.specs.Prelude.{ℕ, suc, ◌-◌, ◌≤◌, Bool, true, false, ◌&&◌, not, ◌≡◌, List, [], ◌∷◌, map, length, eqb}
-use Rattle.records.specs.Base.{if◌then◌else◌, within}
+use Rattle.std.specs.Prelude.{ℕ, suc, ◌-◌, ◌≤◌, Bool, true, false, ◌&&◌, not, ◌≡◌, List, [], ◌∷◌, map, length, eqb, if◌then◌else◌}
+use Rattle.records.specs.Base.{within}
 use Rattle.records.specs.Limits.{record_limit, expr_width, name_width, node_width, work_width}
 use Rattle.records.specs.NodeKind as node
 use Rattle.records.specs.Records.{name_words, node_words}

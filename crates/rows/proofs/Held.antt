@@ -1,4 +1,5 @@
 -- The rows that are read from the words of tables are those of the records that the tables hold.
+use Rattle.std.specs.Prelude.{if◌then◌else◌}
 use Prim.Native.Nat.{ℕ, zero, suc, ◌+◌, ◌*◌, ◌≤◌}
 use mathlib.Core.Bool.{Bool, true, false, ◌&&◌}
 use mathlib.Core.Path.{◌≡◌, refl, sym, ap, ap₂, subst, ◌∙◌}
@@ -8,7 +9,7 @@ use native.Mathlib.Omega.{arith}
 use lib.Dec.{eqb}
 use lib.ListN.{length, get_or, length-append, length-replicate, length-map}
 use borrow.Author.Tests.{le-leb}
-use Rattle.records.specs.Base.{if◌then◌else◌, within}
+use Rattle.records.specs.Base.{within}
 use Rattle.records.specs.Limits.{record_limit, name_width, node_width, error_width}
 use Rattle.records.specs.Records.{no_span, name_words, node_words, error_words}
 use Rattle.records.specs.declared.NameRecord.{NameRecord}

@@ -1,11 +1,11 @@
 -- Rows put one by one, and names counted one by one. Assumes nothing.
+use Rattle.std.specs.Prelude.{if◌then◌else◌}
 use Prim.Native.Nat.{ℕ, suc, ◌+◌, ◌-◌, ◌≤◌, ◌<◌}
 use mathlib.Core.Bool.{Bool}
 use mathlib.Core.Path.{◌≡◌, sym, ◌∙◌}
 use mathlib.Core.List.{List}
 use native.Mathlib.Omega.{arith}
 use native.Mathlib.Numerals.{add-one}
-use Rattle.records.specs.Base.{if◌then◌else◌}
 use Rattle.print.specs.Text.{Puts}
 use Rattle.rows.specs.Words.{◌then◌, Room, rows_from, count_from}
 use Rattle.rows.proofs.Pieces.{first_fits, rest_fits, puts_then, same_puts, same_fits, puts_nothing}

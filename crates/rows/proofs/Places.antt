@@ -1,4 +1,5 @@
 -- The words of kinds stand where the tables of places say: one computed test over each table. Assumes nothing.
+use Rattle.std.specs.Prelude.{if◌then◌else◌}
 use Prim.Native.Nat.{ℕ, zero, suc, ◌*◌, ◌-◌, ◌≤◌, ◌<◌}
 use Prim.Native.String.{String}
 use mathlib.Core.Bool.{Bool, true, false, ◌&&◌}
@@ -9,7 +10,7 @@ use native.Mathlib.Omega.{arith}
 use lib.Dec.{eqb, ltb}
 use lib.ListN.{length, get_or, take, drop, drop_of_length-le}
 use borrow.Author.Tests.{eqb-true, eqb-false, ltb-true, ltb-false, le-leb}
-use Rattle.records.specs.Base.{if◌then◌else◌, bytes, within}
+use Rattle.records.specs.Base.{bytes, within}
 use Rattle.records.specs.Limits.{record_limit}
 use Rattle.records.proofs.Choices.{and_left, and_right}
 use Rattle.tables.specs.Tables.{record_at, word_at}

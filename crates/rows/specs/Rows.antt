@@ -1,8 +1,8 @@
 -- Document 01, Listing: the rows that are printed, as bytes.
-use Rattle.std.specs.Prelude.{ℕ, zero, suc, ◌&&◌, List, [], ◌∷◌, ◌++◌, eqb, leb, length}
+use Rattle.std.specs.Prelude.{ℕ, zero, suc, ◌&&◌, List, [], ◌∷◌, ◌++◌, eqb, leb, length, if◌then◌else◌}
 use Prim.Native.String.{String}
 use Rattle.std.proofs.Math.Option.{Option, none, some}
-use Rattle.records.specs.Base.{if◌then◌else◌, bytes}
+use Rattle.records.specs.Base.{bytes}
 use Rattle.records.specs.declared.refusals.Refusal.{Refusal}
 use Rattle.records.specs.declared.NameRecord.{NameRecord}
 use Rattle.records.specs.declared.NodeRecord.{NodeRecord}

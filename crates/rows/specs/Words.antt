@@ -1,6 +1,6 @@
 -- The rows of the listing as the code reads them from the tables, for any words whatever.
-use Rattle.std.specs.Prelude.{ℕ, zero, suc, ◌+◌, ◌≤◌, Bool, List, [], ◌∷◌, ◌++◌, length}
-use Rattle.records.specs.Base.{if◌then◌else◌, bytes}
+use Rattle.std.specs.Prelude.{ℕ, zero, suc, ◌+◌, ◌≤◌, Bool, List, [], ◌∷◌, ◌++◌, length, if◌then◌else◌}
+use Rattle.records.specs.Base.{bytes}
 use Rattle.records.specs.Limits.{error_width}
 use Rattle.records.specs.declared.ErrorRecord.{ErrorRecord}
 use Rattle.tables.specs.Tables.{word_at, span_at}

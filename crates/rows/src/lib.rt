@@ -1,8 +1,7 @@
 // The rows of the listing, put into a lent output.
 #![tactic(auto)]
 
-ghost use Rattle.std.specs.Prelude.{◌≡◌, ◌≤◌, length};
-ghost use Rattle.records.specs.Base.{if◌then◌else◌};
+ghost use Rattle.std.specs.Prelude.{◌≡◌, ◌≤◌, length, if◌then◌else◌};
 ghost use Rattle.text.specs.Place.{position_of};
 ghost use Rattle.print.specs.Text.{decimal, place_word, listing_limit, Puts};
 ghost use Rattle.access.specs.Access.{name_text_of, is_root_at};

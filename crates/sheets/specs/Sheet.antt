@@ -1,6 +1,6 @@
 -- Document 01, Listing: what the program prints for a source and a jet list.
-use Rattle.std.specs.Prelude.{ℕ, List, ltb, length}
-use Rattle.records.specs.Base.{if◌then◌else◌, bytes}
+use Rattle.std.specs.Prelude.{ℕ, List, ltb, length, if◌then◌else◌}
+use Rattle.records.specs.Base.{bytes}
 use Rattle.reader.specs.Reading.{reading}
 use Rattle.listing.specs.Listing.{listing}
 use Rattle.ends.specs.declared.ListAnswer.{ListAnswer}

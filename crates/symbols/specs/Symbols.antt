@@ -1,6 +1,6 @@
 -- Document 01, Names and nodes, by text: which names are illegal, and under which number a name is found.
-use Rattle.std.specs.Prelude.{ℕ, suc, Bool, ◌||◌, List, [], ◌∷◌, map}
-use Rattle.records.specs.Base.{if◌then◌else◌, bytes}
+use Rattle.std.specs.Prelude.{ℕ, suc, Bool, ◌||◌, List, [], ◌∷◌, map, if◌then◌else◌}
+use Rattle.records.specs.Base.{bytes}
 use Rattle.classes.specs.Classes.{word, starts}
 use Rattle.lex.specs.Tokens.{Token}
 use Rattle.checks.specs.Jets.{same}

@@ -1,5 +1,6 @@
 -- Laws of `filled`, over a variable width: one run of records behind another, that a filled table is `table_of` of the records, and
 -- that the words past the records stay. Later layers cite these and not the definition. Assumes nothing.
+use Rattle.std.specs.Prelude.{if◌then◌else◌}
 use Prim.Native.Nat.{ℕ, suc, ◌+◌, ◌*◌, ◌-◌, ◌≤◌}
 use mathlib.Core.Bool.{Bool, true, false}
 use mathlib.Core.Path.{◌≡◌, refl, sym, ap, ◌∙◌}
@@ -8,7 +9,7 @@ use native.Mathlib.Omega.{arith}
 use native.Mathlib.Nat.{mul-le-mul_right, suc-mul, add-zero}
 use lib.ListN.{length, take, drop, set, length-append, length-take}
 use lib.Seq.{sets, drop-set-lt}
-use Rattle.records.specs.Base.{if◌then◌else◌, within}
+use Rattle.records.specs.Base.{within}
 use Rattle.records.specs.Limits.{record_limit}
 use Rattle.records.proofs.Choices.{within_low, within_high}
 use Rattle.tables.specs.Tables.{table_of, written, filled, beyond}

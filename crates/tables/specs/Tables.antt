@@ -1,7 +1,7 @@
 -- Document 01, Sizes and Refusals: the words of a lent table. `width` is the words of a record.
-use Rattle.std.specs.Prelude.{ℕ, suc, ◌+◌, ◌*◌, ◌-◌, List, [], ◌∷◌, ◌++◌, length, get_or, take, drop, replicate}
+use Rattle.std.specs.Prelude.{ℕ, suc, ◌+◌, ◌*◌, ◌-◌, List, [], ◌∷◌, ◌++◌, length, get_or, take, drop, replicate, if◌then◌else◌}
 use Rattle.std.proofs.lemmas.List.Edits.{sets}
-use Rattle.records.specs.Base.{if◌then◌else◌, within}
+use Rattle.records.specs.Base.{within}
 use Rattle.records.specs.Limits.{record_limit}
 use Rattle.records.specs.declared.Span.{Span}
 

@@ -1,4 +1,5 @@
 -- The character at the front of a text: what `char_len` computes is what the grammar's rules declare. Assumes nothing.
+use Rattle.std.specs.Prelude.{if◌then◌else◌}
 use Prim.Native.Nat.{ℕ, suc, ◌≤◌, ◌<◌}
 use mathlib.Core.Bool.{Bool, true, false, ◌&&◌, ◌||◌, and-false}
 use mathlib.Core.Path.{◌≡◌, refl, sym, ap}
@@ -9,7 +10,7 @@ use lib.ListN.{length, take, length-take}
 use lib.Dec.{ltb}
 use borrow.Author.Tests.{le-leb, lt-leb, ltb-true}
 use Rattle.records.proofs.Choices.{and_left, and_right, or_cases, within_low, within_high}
-use Rattle.records.specs.Base.{if◌then◌else◌, within}
+use Rattle.records.specs.Base.{within}
 use Rattle.text.specs.Utf8.{Range, rules, Fits, done, byte, Char, here, later}
 use Rattle.text.specs.Check.{begins, length_by, char_len}
 

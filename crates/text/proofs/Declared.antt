@@ -1,5 +1,6 @@
 -- What `check_text` computes is what RFC 3629's grammar declares: the answer is right (`check_right`), and it is the only right
 -- one (`right_once`). Assumes nothing.
+use Rattle.std.specs.Prelude.{if◌then◌else◌}
 use Prim.Native.Nat.{ℕ, zero, suc, ◌+◌, ◌-◌, ◌≤◌, ◌<◌}
 use mathlib.Core.Path.{◌≡◌, refl, sym, ap, ◌∙◌}
 use mathlib.Core.List.{List, [], ◌∷◌, ◌++◌, append_assoc}
@@ -9,7 +10,6 @@ use native.Mathlib.Nat.{le_antisymm, zero-add}
 use lib.Dec.{eqb, eqb-suc-zero}
 use lib.ListN.{length, take, drop, length-append, take-append-drop, length-drop}
 use lib.Seq.{drop-append_seam, length-take-le, take-length, take_at, take-add}
-use Rattle.records.specs.Base.{if◌then◌else◌}
 use Rattle.text.specs.declared.TextAnswer.{TextAnswer}
 use Rattle.text.specs.declared.TextAnswer.TheVariants.{Valid, BadAt}
 use Rattle.text.specs.Utf8.{rules, Char, Utf8, none, more, BadPlace}

@@ -1,4 +1,5 @@
 -- What the functions on text need of the definitions. Assumes nothing.
+use Rattle.std.specs.Prelude.{if◌then◌else◌}
 use Prim.Native.Nat.{ℕ, zero, suc, pred, min, ◌+◌, ◌-◌, ◌≤◌, ◌<◌}
 use mathlib.Core.Bool.{Bool, true, false, and-true, or-false}
 use mathlib.Core.Path.{◌≡◌, refl, sym, ap, ◌∙◌}
@@ -11,7 +12,6 @@ use lib.ListN.{length, get_or, take, drop, length-take, length-drop, drop_of_len
 use lib.Seq.{take_all, drop-cons, drop-drop, get_or-take}
 use borrow.Author.Tests.{ne_eqb}
 use Rattle.records.proofs.Choices.{if_or}
-use Rattle.records.specs.Base.{if◌then◌else◌}
 use Rattle.text.specs.declared.Position.{Position}
 use Rattle.text.specs.declared.TextAnswer.{TextAnswer}
 use Rattle.text.specs.declared.TextAnswer.TheVariants.{Valid, BadAt}

@@ -1,6 +1,6 @@
 -- Document 01, refusal 3: what is right, what computes it, and its row.
-use Rattle.std.specs.Prelude.{ℕ, zero, suc, pred, Bool, true, false, ◌&&◌, ◌||◌, List, [], ◌∷◌, length, eqb}
-use Rattle.records.specs.Base.{if◌then◌else◌, within}
+use Rattle.std.specs.Prelude.{ℕ, zero, suc, pred, Bool, true, false, ◌&&◌, ◌||◌, List, [], ◌∷◌, length, eqb, if◌then◌else◌}
+use Rattle.records.specs.Base.{within}
 use Rattle.records.specs.Refusals.{not_utf8, row_of, no_row}
 use Rattle.records.specs.declared.refusals.Refusal.{Refusal}
 use Rattle.text.specs.declared.TextAnswer.{TextAnswer}

@@ -1,8 +1,8 @@
 -- Document 01, Tokens: line and column start at 1; the column counts characters that begin before the offset, and LF
 -- starts a line.
-use Rattle.std.specs.Prelude.{ℕ, ◌+◌, Bool, not, take, eqb}
+use Rattle.std.specs.Prelude.{ℕ, ◌+◌, Bool, not, take, eqb, if◌then◌else◌}
 use mathlib.Core.List.{List, foldl}
-use Rattle.records.specs.Base.{if◌then◌else◌, within}
+use Rattle.records.specs.Base.{within}
 use Rattle.text.specs.declared.Position.{Position}
 
 -- a character begins at every byte outside 128 to 191

@@ -1,4 +1,5 @@
 -- Types with operators: an operator behind a type, its operands joined, and the loop over them. Assumes nothing.
+use Rattle.std.specs.Prelude.{if◌then◌else◌}
 use Prim.Native.Nat.{ℕ, zero, suc, ◌+◌, ◌-◌, ◌≤◌, ◌<◌}
 use mathlib.Core.Bool.{Bool, true, false}
 use mathlib.Core.Path.{◌≡◌, refl, sym, ap, subst, ◌∙◌}
@@ -10,7 +11,6 @@ use lib.Dec.{eqb}
 use lib.ListN.{length, length-append}
 use Rattle.grammar.proofs.Takes.{atom_takes}
 use borrow.Author.Tests.{ne_eqb}
-use Rattle.records.specs.Base.{if◌then◌else◌}
 use Rattle.records.specs.Limits.{type_width}
 use Rattle.records.specs.Records.{type_words}
 use Rattle.records.specs.TokenKind as token

@@ -1,7 +1,6 @@
 -- What the code answers for a type that the grammar reads: its number, the cursor behind it and its records in the table; and the
 -- answers of the functions on the way.
-use Rattle.std.specs.Prelude.{ℕ, zero, suc, ◌≡◌, true, List, [], ◌∷◌, map, eqb, length}
-use Rattle.records.specs.Base.{if◌then◌else◌}
+use Rattle.std.specs.Prelude.{ℕ, zero, suc, ◌≡◌, true, List, [], ◌∷◌, map, eqb, length, if◌then◌else◌}
 use Rattle.records.specs.Limits.{type_width}
 use Rattle.records.specs.Records.{type_words}
 use Rattle.records.specs.TokenKind as token

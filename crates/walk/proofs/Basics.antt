@@ -1,4 +1,5 @@
 -- Facts of statuses, of lists of nodes, and of what the walk never undoes.
+use Rattle.std.specs.Prelude.{if◌then◌else◌}
 use Prim.Native.Nat.{ℕ, zero, suc, ◌≤◌}
 use mathlib.Core.Path.{◌≡◌, refl, sym, ap, subst, ◌∙◌}
 use mathlib.Core.Bool.{Bool, true, false, ◌&&◌}
@@ -8,7 +9,6 @@ use native.Mathlib.Omega.{arith}
 use native.Mathlib.Decide.{ℕ_discrete}
 use lib.ListN.{length, length-append}
 use lib.Dec.{leb, eqb, T, leb→le, le→leb, eqb→eq, eqb_refl}
-use Rattle.records.specs.Base.{if◌then◌else◌}
 use Rattle.records.specs.NodeKind as node
 use Rattle.records.specs.NodeKind.{PartKind}
 use Rattle.walk.specs.Walk.{Tree, none, part, refer, Node, Status, fresh, begun, finished, State, marked, mark, finish, is_fresh, walk}

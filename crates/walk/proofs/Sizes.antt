@@ -2,6 +2,7 @@
 -- line of its own, its first expression is of one line, and a line that is wrong gives no name. With the weight 1 of each, there are
 -- as many nodes as parts of first expressions and incomplete names, and these are no more than the lines and the records of
 -- expressions.
+use Rattle.std.specs.Prelude.{if◌then◌else◌}
 use Prim.Native.Nat.{ℕ, zero, suc, ◌+◌, ◌≤◌}
 use mathlib.Core.Path.{◌≡◌, refl, sym, ap, subst, ◌∙◌}
 use mathlib.Core.Bool.{Bool, true, false}
@@ -11,7 +12,6 @@ use mathlib.Core.Option
 use mathlib.Core.Option.{Option, none as no, some}
 use native.Mathlib.Omega.{arith}
 use lib.ListN.{length}
-use Rattle.records.specs.Base.{if◌then◌else◌}
 use Rattle.records.specs.NodeKind.{PartKind}
 use Rattle.records.specs.ErrorKind as error
 use Rattle.records.specs.declared.Span.{Span}

@@ -1,6 +1,5 @@
 -- Document 01, Names and nodes: the nodes of a program with their in-degrees, and the names with their nodes.
-use Rattle.std.specs.Prelude.{ℕ, suc, ◌+◌, Bool, List, [], ◌∷◌, map, length, eqb}
-use Rattle.records.specs.Base.{if◌then◌else◌}
+use Rattle.std.specs.Prelude.{ℕ, suc, ◌+◌, Bool, List, [], ◌∷◌, map, length, eqb, if◌then◌else◌}
 use Rattle.records.specs.NodeKind as node
 use Rattle.records.specs.Records.{name_words, node_words}
 use Rattle.records.specs.declared.NameRecord.{NameRecord}

@@ -1,7 +1,6 @@
 -- Document 01, Names and nodes: the walk. The names 1 to N, each with a tree, become nodes, numbered as finished. The Rust's
 -- step 2.
-use Rattle.std.specs.Prelude.{ℕ, zero, suc, ◌≤◌, Bool, true, false, ◌&&◌, List, [], ◌∷◌, ◌++◌, length, leb, eqb}
-use Rattle.records.specs.Base.{if◌then◌else◌}
+use Rattle.std.specs.Prelude.{ℕ, zero, suc, ◌≤◌, Bool, true, false, ◌&&◌, List, [], ◌∷◌, ◌++◌, length, leb, eqb, if◌then◌else◌}
 use Rattle.records.specs.NodeKind as node
 use Rattle.records.specs.NodeKind.{PartKind}
 use Rattle.records.specs.declared.Span.{Span}
