@@ -14,7 +14,7 @@ use Rattle.lex.specs.Tokens.{Token}
 use Rattle.checks.specs.declared.Fault.{Fault}
 use Rattle.checks.specs.declared.Fault.TheVariants.{ParseFailed}
 use Rattle.literals.specs.Literals.{is_kind}
-use Rattle.grammar.specs.Rule.{Parsed, got, stop, Rule, go_on, ◌>>=◌, ◌>>◌, give, refuse, refuse_at, is_of, one_of, Table, entry, chosen, choice, taken, perhaps, again, repeat_for, repeat}
+use Rattle.grammar.specs.Rule.{Parsed, got, stop, Rule, go_on, ◌>>=◌, give, refuse, refuse_at, is_of, one_of, Table, entry, chosen, choice, taken, perhaps, again, repeat_for, repeat}
 use Rattle.grammar.specs.Derives.{OneOf, Is}
 use Rattle.grammar.proofs.Repeat.{Steps, repeat_fuel}
 

@@ -6,7 +6,6 @@ use Prim.Native.Nat.{ℕ, zero, suc, ◌+◌, ◌≤◌, ◌<◌}
 use mathlib.Core.Bool.{Bool, true, false}
 use mathlib.Core.Path.{◌≡◌, refl, ap}
 use mathlib.Core.List.{List, [], ◌∷◌, ◌++◌}
-use mathlib.Core.Option.{none, some}
 use native.Mathlib.Omega.{arith}
 use lib.ListN.{length, length-append}
 use Rattle.records.specs.declared.TypeRecord.{TypeRecord}

@@ -1,6 +1,6 @@
 -- Document 01, Grammar: what the grammar answers. A tree holds a token where a text is needed, and `at`, the start of its
 -- keyword, where a place is. Parentheses leave no trace.
-use Rattle.std.specs.Prelude.{ℕ, Bool, true, false, ◌&&◌, [], ◌∷◌}
+use Rattle.std.specs.Prelude.{ℕ, Bool, true, false, ◌&&◌}
 use Rattle.std.proofs.Math.Option.{Option, none, some}
 use Rattle.records.specs.TokenKind as token
 use Rattle.lex.specs.Tokens.{Token}

@@ -1,16 +1,11 @@
 -- `errors::add_error` meets its contract: by whether the node gives an error. Assumes nothing.
 use Rattle.errors.proofs.Adding.{kind_read, count_same, table_same, count_more, table_more}
-use borrow.Author.Rules.{rules}
 use Rattle.errors.proofs.add_error.Goals as goal
 
 pub returns : goal.returns
 returns c =
     let e = kind_read c.error_kind-kind.ensures c.word.ensures in
-    let q = let z = c.if-kind-eq0.false in (
-      count_more _ e z c.next_number-made.ensures,
-      table_more _ _ _ _ _ _ _ e z c.next_number-made.ensures c.error_at-error.ensures c.words-words.ensures c.write.ensures,
-    ) in
-    record { count = q.0; table = q.1 }
+    record { count = count_more _ e c.if-kind-eq0.false c.next_number-made.ensures; table = table_more _ _ _ _ _ _ _ e c.if-kind-eq0.false c.next_number-made.ensures c.error_at-error.ensures c.words-words.ensures c.write.ensures }
 
 pub returns-then-kind-eq0 : goal.returns-then-kind-eq0
 returns-then-kind-eq0 c =

@@ -1,9 +1,8 @@
 -- `errors::node_errors` meets its contract. The loop's invariant: `Going`, for all nodes that the table may hold. Assumes nothing.
 use Prim.Native.Nat.{◌-◌}
-use mathlib.Core.Path.{◌≡◌, refl, ◌∙◌}
+use mathlib.Core.Path.{◌≡◌}
 use lib.ListN.{length}
-use Rattle.errors.proofs.Adding.{Going, going_start, going_more, going_all}
-use borrow.Author.Rules.{rules}
+use Rattle.errors.proofs.Adding.{Going}
 use Rattle.errors.proofs.node_errors.Given as goal
 
 abbrev pub invariant-loop-i : goal.invariant-loop-i
