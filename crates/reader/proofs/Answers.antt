@@ -1,8 +1,8 @@
 -- The reading as the code answers it: by the lexer's answer; and the lists of records as the layers below have them.
 use Rattle.std.specs.Prelude.{if◌then◌else◌}
 use Prim.Native.Nat.{ℕ, suc, ◌*◌, ◌≤◌}
-use mathlib.Core.Bool.{Bool, true, false, ◌||◌}
-use mathlib.Core.Path.{◌≡◌, refl, sym, ap, ◌∙◌}
+use mathlib.Core.Bool.{Bool, true, false}
+use mathlib.Core.Path.{◌≡◌, refl, sym, ap}
 use mathlib.Core.List.{List, [], ◌∷◌, map-map}
 use lib.ListN.{length, length-map}
 use borrow.Author.Tests.{le-ltb}

@@ -1,5 +1,4 @@
 -- The answer for any source, any jet list and any tables, by the tests that came before it.
-use Rattle.std.specs.Prelude.{if◌then◌else◌}
 use Prim.Native.Nat.{ℕ, ◌*◌, ◌≤◌}
 use mathlib.Core.Bool.{Bool, true, false, ◌||◌}
 use mathlib.Core.Path.{◌≡◌, refl, sym, ap, subst, ◌∙◌}

@@ -1,0 +1,13 @@
+-- `rows::put_root_rows` meets its contract. The loop's invariant: the rows that are left, put into the output as it is now, give the whole.
+use Prim.Native.Nat.{◌-◌, ◌≤◌}
+use mathlib.Core.Path.{◌≡◌}
+use lib.ListN.{length}
+use Rattle.rows.specs.Words.{root_row_at}
+use Rattle.rows.proofs.Many.{RowsLeft}
+use Rattle.rows.proofs.put_root_rows.Given as goal
+
+abbrev pub invariant-loop-i : goal.invariant-loop-i
+invariant-loop-i l = (length l.out ≡ length l.initial.out) × (l.i ≤ l.named) × RowsLeft (root_row_at l.source l.names l.named l.nodes l.made) l.named l.initial.out l.at l.i l.out l.behind
+
+abbrev pub decreases-loop-i : goal.decreases-loop-i
+decreases-loop-i l = l.named - l.i
