@@ -1,5 +1,5 @@
 -- Document 01, Listing: what is printed for a source and a jet list, as bytes; and how it is put into a lent output.
-use Rattle.std.specs.Prelude.{ℕ, List, [], ◌∷◌, ◌++◌, leb, length, drop, if◌then◌else◌}
+use Rattle.std.specs.Prelude.{ℕ, List, ◌++◌, leb, length, drop, if◌then◌else◌}
 use Rattle.records.specs.Refusals.{row_of}
 use Rattle.reader.specs.Reading.{Reading, read, refused}
 use Rattle.rows.specs.Rows.{listed, refused_row}
