@@ -41,7 +41,7 @@ typedef struct {
 } ZaghduremRefusal;
 
 /* Whether the bytes are UTF-8 by RFC 3629: no refusal, or refusal 3 at the first byte of the first ill-formed sequence
- * (definition `checkText`). Bytes of any length. */
+ * (definition `check_text`). Bytes of any length. */
 ZaghduremRefusal zaghdurem_check_text(const uint8_t *source, size_t source_len);
 
 /* A line and a column, both from 1. */
@@ -50,12 +50,12 @@ typedef struct {
     size_t column;
 } ZaghduremPosition;
 
-/* The line and column of an offset (definition `placeOf`), for any bytes, UTF-8 or not: LF starts a line, the column counts
+/* The line and column of an offset (definition `position_of`), for any bytes, UTF-8 or not: LF starts a line, the column counts
  * characters, and a character begins at every byte outside 128 to 191. An offset past the end counts as the end. */
 ZaghduremPosition zaghdurem_offset_to_position(const uint8_t *source, size_t source_len, size_t offset);
 
 /* Word `place`, counted from 0, of record `number`, counted from 1, of a table whose records have `width` words (definition
- * `wordAt`). 0 for the number 0, a number past 1,024, a place past the record, and words past the table's end. */
+ * `word_at`). 0 for the number 0, a number past 1,024, a place past the record, and words past the table's end. */
 uint32_t zaghdurem_word(const uint32_t *table, size_t table_len, uint32_t width, uint32_t number, uint32_t place);
 
 /* What lexing a source gives: no refusal and so many tokens, or a refusal, its place and the number beside it, and 0
@@ -67,7 +67,7 @@ typedef struct {
     uint32_t tokens;
 } ZaghduremLexed;
 
-/* Lexes a source into a lent table of tokens, three words each: kind, start, length (definitions `lexAll` and `leaves`).
+/* Lexes a source into a lent table of tokens, three words each: kind, start, length (definitions `lex_all` and `leaves`).
  * Refusals, in the order they are looked for: 1, the table has fewer words than 1,024 records, and no word is changed; 2,
  * the source has over 32,768 bytes; 3, it is not UTF-8; then, whichever is met first from the left, 4 at the byte where no
  * token matches or 5 at the start of a 1,025th token. Refusals 2 to 5 set the first 1,024 records to zero; otherwise unused
@@ -86,7 +86,7 @@ typedef struct {
     uint32_t types;
 } ZaghduremParsed;
 
-/* Parses a source into four lent tables (definitions `parseAll` and `tablesAfter`). A token has three words: kind, start,
+/* Parses a source into four lent tables (definitions `parse_all` and `tables_after`). A token has three words: kind, start,
  * length; a line five: name start, name length, expression, source type, target type; an expression six: kind, start, left,
  * right, span start, span length; a type four: kind, left, right, n, where a name has its start and length as left and
  * right. The jets are the pieces of the jet list between newline bytes (10).
@@ -171,7 +171,7 @@ ZaghduremListed zaghdurem_list(const uint8_t *source, size_t source_len, const u
                                uint32_t *errors, size_t errors_len, uint32_t *work, size_t work_len,
                                uint8_t *out, size_t out_len);
 
-/* Byte `index`, counted from 0, of the literal at a span of the source (definition `literalByte`), a number below 256: its
+/* Byte `index`, counted from 0, of the literal at a span of the source (definition `literal_byte`), a number below 256: its
  * bits go first bit highest, four for a hex digit, zeros after the last. 0 past the last byte, and for a span that is no
  * literal. A literal is a span inside the source whose whole text is `0b` and binary digits or `0x` and lower-case hex
  * digits, at least one. Any `start` and `len` will do; their sum does not wrap. */
