@@ -1,6 +1,7 @@
 // The program `sheet`: reads jets.txt and standard input, and prints the sheet.
 #![tactic(auto)]
 
+ghost use Rattle.std.specs.Prelude.{◌≡◌, OnErr, length};
 ghost use Rattle.std.specs.Io.{ReadsAtMost};
 
 use records::limits::Limits;
@@ -16,9 +17,10 @@ const SOURCE: usize = Limits::SOURCE as usize + 1;
 // A byte more than a jet list may have, likewise.
 const JETS: usize = sheets::JETS + 1;
 
-// Reads jets.txt; a file that is absent is an empty list.
+// Reads jets.txt; a file that is absent is an empty list. An error leaves the buffer with bytes of no meaning.
 fn read_jets<R: Files>(rt: &R, buf: &mut [u8]) -> io::Result<usize>
-    ensures { ReadsAtMost result buf.new }
+    ensures ok { ReadsAtMost result buf.new }
+    ensures err { OnErr result (length buf.new ≡ length buf.old) }
 {
     match File::open(rt, "jets.txt") {
         Ok(mut file) => inputs::read_full(&mut file, buf),

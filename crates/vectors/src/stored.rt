@@ -1,13 +1,12 @@
 // Reads a stored case: i/NNN is the source, and t/NNN the answer as little-endian words: number, place and value of the
 // refusal, the seven counts, the records of the seven tables, and the line and column of each token.
-ghost use Rattle.std.specs.Prelude.{◌<◌, ◌≤◌, ◌^◌};
+ghost use Rattle.std.specs.Prelude.{◌≡◌, ◌<◌, ◌≤◌, ◌^◌, OnErr, length};
 ghost use Rattle.std.specs.Io.{ReadsAtMost};
 
 use records::{
     ErrorRecord, ExprRecord, LineRecord, NameRecord, NodeRecord, TokenRecord, TypeRecord,
 };
 use std::fs::File;
-use std::io::ErrorKind;
 use std::rt::Files;
 use std::{io, str};
 
@@ -41,10 +40,12 @@ fn digit(n: u16) -> u8
     b'0' + n as u8
 }
 
-// Reads the file of a case in the folder of this letter, and gives how many bytes of it there are.
+// Reads the file of a case in the folder of this letter, and gives how many bytes of it there are. An error leaves the buffer
+// with bytes of no meaning. A path that is no text would be the empty one, which no system opens.
 pub(crate) fn load<R: Files>(rt: &R, folder: u8, number: u16, buf: &mut [u8]) -> io::Result<usize>
     requires { number < 1000 }
-    ensures { ReadsAtMost result buf.new }
+    ensures ok { ReadsAtMost result buf.new }
+    ensures err { OnErr result (length buf.new ≡ length buf.old) }
 {
     let path = [
         folder,
@@ -53,10 +54,7 @@ pub(crate) fn load<R: Files>(rt: &R, folder: u8, number: u16, buf: &mut [u8]) ->
         digit(number / 10 % 10),
         digit(number % 10),
     ];
-    let Ok(path) = str::from_utf8(&path) else {
-        return Err(io::Error::from(ErrorKind::InvalidFilename));
-    };
-    let mut file = File::open(rt, path)?;
+    let mut file = File::open(rt, str::from_utf8(&path).unwrap_or(""))?;
     inputs::read_full(&mut file, buf)
 }
 
