@@ -1,50 +1,41 @@
 -- Laws of runs and of words at the front, in plain lists and numbers. Assumes nothing.
 use Rattle.std.specs.Prelude.{if◌then◌else◌}
-use Prim.Native.Nat.{ℕ, zero, suc, ◌+◌, ◌-◌, ◌≤◌, ◌<◌}
+use Rattle.std.specs.List.{prefix_len, take_while}
+use Rattle.std.proofs.lemmas.List.Folds.{length-prefix_len}
+use Rattle.std.proofs.Common.{cond, rules, tests}
+use lib.Pointwise.{pointwise}
+use Prim.Native.Nat.{ℕ, zero, suc, min, ◌+◌, ◌-◌, ◌≤◌, ◌<◌}
 use mathlib.Core.Bool.{Bool, true, false, ◌&&◌}
-use mathlib.Core.Path.{◌≡◌, refl, sym, ◌∙◌}
+use mathlib.Core.Path.{◌≡◌, refl, sym, ap, ◌∙◌}
 use mathlib.Core.List.{List, [], ◌∷◌, ◌++◌}
-use native.Mathlib.Numerals.{add-one}
 use native.Mathlib.Omega.{arith}
-use lib.ListN.{length, take, drop, get_or, replicate, length-drop, drop_of_length-le}
-use lib.Seq.{drop-cons, take_all}
-use lib.Dec.{leb, ltb, leb-zero, leb-suc-zero, leb-suc-suc}
-use borrow.Author.Tests.{eq-eqb, ne_eqb, ltb-true, lt-ltb}
+use lib.ListN.{length, take, drop, replicate, length-drop, drop_of_length-le}
+use lib.Seq.{take_all}
+use lib.Dec.{eqb, leb, ltb, leb-zero, leb-suc-zero, leb-suc-suc}
+use borrow.Author.Tests.{ltb-true, lt-ltb, leb-true, leb-false}
 use Rattle.records.proofs.Choices.{and_right}
 use Rattle.classes.specs.declared.Class.{Class}
 use Rattle.classes.specs.Classes.{has, word, starts, run}
 
--- a run: one byte more, a byte that ends it, the end of the text
-module _ (c : Class) (s : List ℕ) (i : ℕ) where
-  pub run_take : i < length s → has c (get_or s i 0) ≡ true → run c (drop i s) ≡ suc (run c (drop (i + 1) s))
-  unfolding run
-  run_take h e = rw (drop-cons s i 0, e, add-one)
+-- a run, as many bytes from the front on as the class has
+run_prefix : (c : Class) (s : List ℕ) → run c s ≡ prefix_len (has c) s
+unfolding run
+run_prefix c [] = refl
+run_prefix c (b ∷ s) = go (has c b) (run_prefix c s)
+  where
+    go : (p : Bool) → run c s ≡ prefix_len (has c) s → (if p then suc (run c s) else 0) ≡ cond p (1 + prefix_len (has c) s) 0
+    go true e = omega arith
+    go false e = refl
 
-  pub run_stop : i < length s → has c (get_or s i 0) ≡ false → run c (drop i s) ≡ 0
-  unfolding run
-  run_stop h e = rw (drop-cons s i 0, e)
+-- a word at the front
+same_either_way : (a b : ℕ) → eqb a b ≡ eqb b a
+same_either_way a b = search (rules, tests)
 
-  pub run_end : length s ≤ i → run c (drop i s) ≡ 0
-  unfolding run
-  run_end h = rw drop_of_length-le
-
--- a word at the front: one byte more, another byte, the end of the text, the end of the word
-module _ (t w : List ℕ) (i : ℕ) where
-  pub stands_take : i < length w → i < length t → get_or t i 0 ≡ get_or w i 0 → starts (word (drop i w)) (drop i t) ≡ starts (word (drop (i + 1) w)) (drop (i + 1) t)
-  unfolding starts
-  stands_take h k e = rw (drop-cons w i 0, drop-cons t i 0, eq-eqb _ _ e, add-one i)
-
-  pub stands_not : i < length w → i < length t → (get_or t i 0 ≡ get_or w i 0 → ⊥) → starts (word (drop i w)) (drop i t) ≡ false
-  unfolding starts
-  stands_not h k e = rw (drop-cons w i 0, drop-cons t i 0, ne_eqb _ _ e)
-
-  pub stands_short : i < length w → length t ≤ i → starts (word (drop i w)) (drop i t) ≡ false
-  unfolding starts
-  stands_short h k = rw (drop-cons w i 0, drop_of_length-le t k)
-
-  pub stands_end : length w ≤ i → starts (word (drop i w)) (drop i t) ≡ true
-  unfolding starts
-  stands_end h = rw (drop_of_length-le w h)
+pub starts_word : (w s : List ℕ) → starts (word w) s ≡ pointwise eqb w (take (length w) s)
+unfolding starts
+starts_word [] s = refl
+starts_word (k ∷ w) [] = refl
+starts_word (k ∷ w) (b ∷ s) = rw (same_either_way b k, starts_word w s)
 
 pub run_le : (c : Class) (s : List ℕ) → run c s ≤ length s
 unfolding run
@@ -55,8 +46,24 @@ run_le c (b ∷ s) = go (has c b) (run_le c s)
     go true h = omega arith
     go false h = omega arith
 
-pub run_fits : (c : Class) (s : List ℕ) (i : ℕ) → run c (drop i s) ≤ length s
-run_fits c s i = omega (arith, run_le c (drop i s), length-drop i s)
+-- the part of a slice to its end
+pub part_rest : (s : List ℕ) (at : ℕ) → take (length s - at) (drop at s) ≡ drop at s
+part_rest s at = take_all (length s - at) (drop at s) (omega (arith, length-drop at s))
+
+-- the run in the part that begins at `at`, or at the text's end where that is before
+pub run_counted : (c : Class) (s : List ℕ) (at k r : ℕ) → k ≡ min at (length s) → r ≡ length (take_while (has c) (take (length s - k) (drop k s))) → (r ≡ run c (drop at s)) × (r ≤ length s)
+run_counted c s at k r e f =
+    let d : drop k s ≡ drop at s = go (leb at (length s)) refl in
+    let n : r ≡ run c (drop at s) = f ∙ ap (λ t. length (take_while (has c) t)) (part_rest s k ∙ d) ∙ length-prefix_len (has c) (drop at s) ∙ sym (run_prefix c (drop at s)) in
+    (n, omega (arith, n, run_le c (drop at s), length-drop at s))
+  where
+    go : (b : Bool) → leb at (length s) ≡ b → drop k s ≡ drop at s
+    go true h = let l : at ≤ length s = leb-true _ _ h in let z : k ≡ at = omega arith in rw z
+    go false h =
+        let l : length s < at = leb-false _ _ h in
+        let m : length s ≤ k = omega arith in
+        let n : length s ≤ at = omega arith in
+        drop_of_length-le s m ∙ sym (drop_of_length-le s n)
 
 -- a class with more bytes runs as far or farther
 pub run_mono : (c d : Class) → ((b : ℕ) → has c b ≡ true → has d b ≡ true) → (s : List ℕ) → run c s ≤ run d s
@@ -120,7 +127,3 @@ unfolding starts
 starts_le [] s e = omega arith
 starts_le (c ∷ cs) [] e = let y : ◌≡◌ {A = ℕ} 0 1 = cc in absurd (omega arith)
 starts_le (c ∷ cs) (b ∷ s) e = omega (arith, starts_le cs s (and_right (has c b) _ e))
-
--- the part of a slice to its end
-pub part_rest : (s : List ℕ) (at : ℕ) → take (length s - at) (drop at s) ≡ drop at s
-part_rest s at = take_all (length s - at) (drop at s) (omega (arith, length-drop at s))

@@ -20,24 +20,22 @@ pub enum Class {
     NotLf,
 }
 
-// Whether a byte is of the class.
+// Whether a byte is of the class. `|` and no pattern joins the tests: a branch for each would make a run take twice as long.
 pub fn has(c: Class, b: u8) -> bool
     ensures { result ≡ has_byte c b }
 {
     match c {
         Class::Byte(k) => b == k,
-        Class::Bit => (b'0' <= b) & (b <= b'1'),
-        Class::Digit => (b'0' <= b) & (b <= b'9'),
-        Class::NonZero => (b'1' <= b) & (b <= b'9'),
-        Class::LowHex => ((b'0' <= b) & (b <= b'9')) | ((b'a' <= b) & (b <= b'f')),
-        Class::AnyHex => ((b'0' <= b) & (b <= b'9'))
-            | ((b'a' <= b) & (b <= b'f'))
-            | ((b'A' <= b) & (b <= b'F')),
-        Class::JetPart => ((b'a' <= b) & (b <= b'z')) | ((b'0' <= b) & (b <= b'9')) | (b == b'_'),
+        Class::Bit => (b'0'..=b'1').contains(&b),
+        Class::Digit => b.is_ascii_digit(),
+        Class::NonZero => (b'1'..=b'9').contains(&b),
+        Class::LowHex => b.is_ascii_digit() | (b'a'..=b'f').contains(&b),
+        Class::AnyHex => b.is_ascii_hexdigit(),
+        Class::JetPart => b.is_ascii_lowercase() | b.is_ascii_digit() | (b == b'_'),
         Class::SymbolFirst => begins_symbol(b),
-        Class::SymbolPart => begins_symbol(b) | ((b'0' <= b) & (b <= b'9')),
+        Class::SymbolPart => begins_symbol(b) | b.is_ascii_digit(),
         Class::Blank => (b == b' ') | (b == b'\t') | (b == b'\r') | (b == b'\n'),
-        Class::NotLf => !(b == b'\n'),
+        Class::NotLf => b != b'\n',
     }
 }
 
@@ -45,42 +43,20 @@ pub fn has(c: Class, b: u8) -> bool
 fn begins_symbol(b: u8) -> bool
     ensures { result ≡ begins_symbol b }
 {
-    ((b'a' <= b) & (b <= b'z'))
-        | ((b'A' <= b) & (b <= b'Z'))
-        | (b == b'_')
-        | (b == b'-')
-        | (b == b'.')
-        | (b == b'\'')
+    b.is_ascii_alphabetic() | (b == b'_') | (b == b'-') | (b == b'.') | (b == b'\'')
 }
 
 // How many bytes from `at` on are of the class.
 pub fn run(s: &[u8], at: usize, c: Class) -> usize
     ensures { (result ≡ run_of c (drop at s.now)) × (result ≤ length s.now) }
 {
-    let mut i = at;
-    while i < s.len() {
-        if has(c, s[i]) {
-            i += 1;
-        } else {
-            return i - at;
-        }
-    }
-    i - at
+    let rest = &s[at.min(s.len())..];
+    rest.iter().take_while(|b| has(c, **b)).count()
 }
 
 // Whether the bytes of w stand at the front of s.
 pub fn stands(s: &[u8], w: &[u8]) -> bool
     ensures { result ≡ starts (word w.now) s.now }
 {
-    let mut i: usize = 0;
-    while i < w.len() {
-        if s.len() <= i {
-            return false;
-        }
-        if s[i] != w[i] {
-            return false;
-        }
-        i += 1;
-    }
-    true
+    s.starts_with(w)
 }

@@ -1,14 +1,14 @@
-use Rattle.classes.proofs.Laws.{run_fits}
-use Rattle.classes.proofs.Laws.{run_take, run_stop, run_end}
-use mathlib.Core.Path.{sym, ◌∙◌}
-use native.Mathlib.Omega.{arith}
+-- `classes::run` meets its contract: the chain counts the bytes of the class from the front of the part on.
+use Rattle.std.proofs.Common.{rules, tests}
+use Rattle.std.proofs.lemmas.Iterator.{YieldsList-from_slice}
+use Rattle.std.proofs.lemmas.Iterator.Consumers.{count_from_yields_List}
+use Rattle.std.proofs.lemmas.Iterator.Search.{YieldsList-from_take_while}
+use Rattle.classes.specs.Classes.{has}
+use Rattle.classes.proofs.Laws.{run_counted}
 use Rattle.classes.proofs.run.Goals as goal
 
-pub loop-i-preserved : goal.loop-i-preserved
-loop-i-preserved c = omega (arith, run_take c.args.c c.args.s.now c.loop-i.i c.loop-i-test.true (sym c.has.ensures ∙ c.if-has.true))
-
 pub returns : goal.returns
-returns c = omega (arith, run_end c.args.c c.args.s.now c.loop-i.i c.loop-i-test.false, run_fits c.args.c c.args.s.now c.args.at)
-
-pub returns-else-has : goal.returns-else-has
-returns-else-has c = omega (arith, run_stop c.args.c c.args.s.now c.loop-i.i c.loop-i-test.true (sym c.has.ensures ∙ c.if-has.false))
+returns c =
+    run_counted c.args.c c.args.s.now c.args.at _ _ c.min.ensures
+    (count_from_yields_List _ _ c.count.ensures.ran
+    (YieldsList-from_take_while _ (λ b. has c.args.c b) (YieldsList-from_slice _ (cc)) c.take_while.ensures.closure c.take_while.ensures.done (λ x b q k. search (rules, tests))))
