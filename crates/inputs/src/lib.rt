@@ -17,6 +17,7 @@ pub fn read_full<R: Read>(input: &mut R, buf: &mut [u8]) -> io::Result<usize>
     ensures err { OnErr result ((n : ℕ) × (n ≤ length buf.new) × Consumes (R.remaining input.old) (R.remaining input.new) (take n buf.new)) }
 {
     let mut len = 0;
+    // No `for` fits: how far a turn goes is for the reader to say.
     while len < buf.len() {
         let count = input.read(&mut buf[len..])?;
         if count == 0 {
