@@ -1,28 +1,18 @@
 -- What the functions on lent words need of the definitions. Assumes nothing.
-use Prim.Native.Nat.{ℕ, suc, min, ◌+◌, ◌*◌, ◌-◌, ◌≤◌, ◌<◌, ◌^◌}
+use Prim.Native.Nat.{ℕ, suc, min, ◌+◌, ◌*◌, ◌-◌, ◌≤◌, ◌<◌}
 use mathlib.Core.Bool.{Bool, true, false}
 use mathlib.Core.Path.{◌≡◌, refl, sym, ◌∙◌}
 use mathlib.Core.List.{List}
 use native.Mathlib.Omega.{arith}
 use native.Mathlib.Numerals.{add-one}
-use native.Mathlib.Nat.{mul-le-mul_right, add-zero}
+use native.Mathlib.Nat.{add-zero}
 use lib.Dec.{leb}
 use borrow.Author.Tests.{leb-true, leb-false}
 use lib.ListN.{length, get_or, take, drop, set, length-take, drop_of_length-le, get_or-eq_default}
 use lib.Seq.{sets, drop-cons, get_or-take, get_or-drop, take_all, take-length}
-use Rattle.records.proofs.Choices.{within_high}
 use Rattle.records.specs.Base.{within}
 use Rattle.records.specs.Limits.{record_limit}
 use Rattle.tables.specs.Tables.{record_at, word_at, written}
-
--- ---- numbers
-
--- where a record begins, with room to spare
-pub begins : (a b n w : ℕ) → a ≡ n - 1 → b ≡ w → within 1 record_limit n ≡ true → w < 2 ^ 32 → (a * b ≡ (n - 1) * w) × (a * b < 2 ^ 60)
-begins a b n w ea eb e k =
-    let h : n ≤ record_limit = within_high 1 record_limit n e in
-    let m : a * b ≤ 1024 * b = mul-le-mul_right b (omega arith) in
-    (cc, omega arith)
 
 -- ---- reading
 
@@ -59,28 +49,25 @@ module _ (w : ℕ) (t : List ℕ) (n : ℕ) (ws : List ℕ) where
   unfolding written
   written_none e = rw e
 
-  pub written_here : (at v k : ℕ) (new : List ℕ) → within 1 record_limit n ≡ true → at ≡ (n - 1) * w → v ≡ w → k ≡ min v (length ws) → new ≡ sets t at (take k ws) → new ≡ written w t n ws
+  pub written_here : (at k : ℕ) (new : List ℕ) → within 1 record_limit n ≡ true → at ≡ (n - 1) * w → k ≡ min w (length ws) → new ≡ sets t at (take k ws) → new ≡ written w t n ws
   unfolding written
-  written_here at v k new e ea ev ek en = en ∙ rw (e, ea, ek, ev, ← take_min w ws)
+  written_here at k new e ea ek en = en ∙ rw (e, ea, ek, ← take_min w ws)
 
 -- storing words one by one: t is the table now, t₀ what it was
-module _ (t₀ ws : List ℕ) (at count : ℕ) (h : count ≤ length ws) where
+module _ (t₀ ws : List ℕ) (at : ℕ) where
   pub Storing : (t : List ℕ) (j : ℕ) → Type 0
-  Storing t j = sets t₀ at (take count ws) ≡ sets t (at + j) (drop j (take count ws))
+  Storing t j = sets t₀ at ws ≡ sets t (at + j) (drop j ws)
 
   pub storing_none : Storing t₀ 0
   unfolding Storing
   storing_none = rw add-zero
 
-  pub storing_more : (t new : List ℕ) (j : ℕ) → j < count → new ≡ set t (at + j) (get_or ws j 0) → Storing t j → Storing new (j + 1)
+  pub storing_more : (t new : List ℕ) (j : ℕ) → j < length ws → new ≡ set t (at + j) (get_or ws j 0) → Storing t j → Storing new (j + 1)
   unfolding Storing
   storing_more t new j k e s =
-      let l : j < length (take count ws) = simp length-take (omega arith) in
       let z : at + suc j ≡ suc (at + j) = omega arith in
-      s ∙ rw (e, add-one j, z, drop-cons (take count ws) j 0 l, get_or-take count ws j 0 k)
+      s ∙ rw (e, add-one j, z, drop-cons ws j 0 k)
 
-  pub storing_done : (t : List ℕ) (j : ℕ) → count ≤ j → Storing t j → t ≡ sets t₀ at (take count ws)
+  pub storing_done : (t : List ℕ) (j : ℕ) → length ws ≤ j → Storing t j → t ≡ sets t₀ at ws
   unfolding Storing
-  storing_done t j k s =
-      let l : length (take count ws) ≤ j = simp length-take (omega arith) in
-      sym (s ∙ rw (drop_of_length-le (take count ws) l))
+  storing_done t j k s = sym (s ∙ rw (drop_of_length-le ws k))

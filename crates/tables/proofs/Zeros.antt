@@ -10,7 +10,7 @@ use lib.Bits.{bit_or, or_zero_l, or_add_and, and_le_r}
 use lib.Dec.{eqb, leb, eqb-suc-zero}
 use borrow.Author.Tests.{leb-true, leb-false, eqb-true, ne_eqb}
 use lib.ListN.{length, get_or, take, drop, set, replicate, length-drop, length-append, length-replicate, replicate-append-replicate, drop_of_length-le}
-use lib.Seq.{sets-eq, length-sets, drop-cons, set-get_or, take_all, take_at}
+use lib.Seq.{sets-eq, drop-cons, set-get_or, take_all, take_at}
 use Rattle.records.proofs.Choices.{and_left, and_right}
 use Rattle.records.specs.Limits.{record_limit}
 use Rattle.tables.specs.Tables.{joined, table_of}
@@ -44,10 +44,6 @@ module _ (ws : List ℕ) where
 -- ---- setting to zero
 
 module _ (t : List ℕ) where
-  pub zeroed_length : (i to : ℕ) → length (zeroed t i to) ≡ length t
-  unfolding zeroed
-  zeroed_length i to = length-sets t i (replicate (to - i) 0)
-
   -- no word is left
   pub zeroed_none : (i to : ℕ) → to ≤ i → zeroed t i to ≡ t
   unfolding zeroed

@@ -1,7 +1,7 @@
 // The lent tables: words of records, read, written and cleared. Each function takes any words, of any length.
 #![tactic(auto)]
 
-ghost use Rattle.std.specs.Prelude.{◌≡◌, true, [], min, ◌-◌, ◌*◌, ◌^◌, ◌<◌, ◌≤◌, length, take, get_or, set};
+ghost use Rattle.std.specs.Prelude.{◌≡◌, true, [], min, ◌-◌, ◌*◌, ◌^◌, ◌<◌, ◌≤◌, length, take, set};
 ghost use Rattle.records.specs.Base.{within};
 ghost use Rattle.records.specs.Limits.{record_limit};
 ghost use Rattle.std.proofs.lemmas.List.Edits.{sets};
@@ -10,27 +10,14 @@ ghost use Rattle.tables.specs.Zeros.{all_zero, zeroed};
 
 use records::limits::Limits;
 
-fn wide(x: u32) -> usize
-    ensures { result ≡ x }
-{
-    x as usize
-}
-
 // The lesser of two lengths.
 pub fn lesser(a: usize, b: usize) -> usize
     ensures { result ≡ min a b }
 {
-    if a <= b { a } else { b }
+    a.min(b)
 }
 
-// The word at i; 0 past the end.
-fn get(table: &[u32], i: usize) -> u32
-    ensures { result ≡ get_or table.now i 0 }
-{
-    if i < table.len() { table[i] } else { 0 }
-}
-
-// Stores v at i; past the end nothing.
+// Stores v at i; past the end nothing. A test of the index is as plain here as `get_mut`.
 fn store(table: &mut [u32], i: usize, v: u32)
     ensures { table.new ≡ set table.old i v }
 {
@@ -44,10 +31,8 @@ fn put(table: &mut [u32], at: usize, words: &[u32], count: usize)
     requires { (at < 2 ^ 60) × (count ≤ length words.now) }
     ensures { table.new ≡ sets table.old at (take count words.now) }
 {
-    let mut j: usize = 0;
-    while j < count {
-        store(table, at + j, words[j]);
-        j += 1;
+    for (j, word) in words[..count].iter().enumerate() {
+        store(table, at + j, *word);
     }
 }
 
@@ -55,7 +40,7 @@ fn put(table: &mut [u32], at: usize, words: &[u32], count: usize)
 fn is_number(number: u32) -> bool
     ensures { result ≡ within 1 record_limit number }
 {
-    (1 <= number) & (number <= Limits::RECORDS)
+    matches!(number, 1..=Limits::RECORDS)
 }
 
 // Where a record begins.
@@ -63,7 +48,7 @@ fn begin(width: u32, number: u32) -> usize
     requires { within 1 record_limit number ≡ true }
     ensures { (result ≡ (number - 1) * width) × (result < 2 ^ 60) }
 {
-    wide(number - 1) * wide(width)
+    (number - 1) as usize * width as usize
 }
 
 // A word of a record, counted from 0, of a table whose records have `width` words: 0 for a number or a place that is none.
@@ -76,7 +61,8 @@ pub fn word(table: &[u32], width: u32, number: u32, place: u32) -> u32
     if width <= place {
         return 0;
     }
-    get(table, begin(width, number) + wide(place))
+    let at = begin(width, number) + place as usize;
+    table.get(at).copied().unwrap_or(0)
 }
 
 // Writes the words of a record; for a number that is none, nothing.
@@ -88,7 +74,7 @@ pub fn write(table: &mut [u32], width: u32, number: u32, words: &[u32])
             table,
             begin(width, number),
             words,
-            lesser(wide(width), words.len()),
+            words.len().min(width as usize),
         );
     }
 }
@@ -107,23 +93,19 @@ fn is_zero(words: &[u32]) -> bool
     ensures { result ≡ all_zero words.now }
 {
     let mut seen: u32 = 0;
-    let mut i: usize = 0;
-    while i < words.len() {
-        seen = seen | words[i];
-        i += 1;
+    for word in words {
+        seen |= *word;
     }
     seen == 0
 }
 
-// Sets the words from `from` up to `to` to zero.
+// Sets the words from `from` up to `to` to zero; none where `to` comes first, which `fill` on a part would not bear.
 fn zero(table: &mut [u32], from: usize, to: usize)
     requires { to ≤ length table.old }
     ensures { table.new ≡ zeroed table.old from to }
 {
-    let mut i = from;
-    while i < to {
+    for i in from..to {
         table[i] = 0;
-        i += 1;
     }
 }
 
@@ -142,11 +124,11 @@ fn zero_again(table: &mut [u32], from: usize, to: usize)
 pub fn clear(table: &mut [u32], width: u32)
     ensures { table.new ≡ take (length table.old) (table_of width [] table.old) }
 {
-    let count = lesser(Limits::RECORDS as usize * wide(width), table.len());
-    let mut i: usize = 0;
-    while Block::WORDS <= count - i {
-        zero_again(table, i, i + Block::WORDS);
-        i += Block::WORDS;
+    let count = (Limits::RECORDS as usize * width as usize).min(table.len());
+    let blocks = count / Block::WORDS;
+    for block in 0..blocks {
+        let from = block * Block::WORDS;
+        zero_again(table, from, from + Block::WORDS);
     }
-    zero(table, i, count);
+    zero(table, blocks * Block::WORDS, count);
 }

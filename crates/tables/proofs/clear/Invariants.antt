@@ -1,13 +1,9 @@
 -- `tables::clear` meets its contract. The loop's invariant: the words that are left, set to zero in the table as it is now,
 -- give the whole.
-use Prim.Native.Nat.{◌≤◌, ◌-◌}
+use Prim.Native.Nat.{◌*◌}
 use mathlib.Core.Path.{◌≡◌}
-use lib.ListN.{length}
 use Rattle.tables.specs.Zeros.{zeroed}
 use Rattle.tables.proofs.clear.Given as goal
 
-abbrev pub invariant-loop-i : goal.invariant-loop-i
-invariant-loop-i l = (l.i ≤ l.count) × (length l.table ≡ length l.initial.table) × (l.count ≤ length l.initial.table) × (zeroed l.initial.table 0 l.count ≡ zeroed l.table l.i l.count)
-
-abbrev pub decreases-loop-i : goal.decreases-loop-i
-decreases-loop-i l = l.count - l.i
+abbrev pub invariant-loop-block : goal.invariant-loop-block
+invariant-loop-block l = zeroed l.initial.table 0 l.count ≡ zeroed l.table (l.block * 64) l.count

@@ -3,11 +3,11 @@
 use Rattle.tables.proofs.Zeros.{looked_none, looked_more, looked_done}
 use Rattle.tables.proofs.is_zero.Goals as goal
 
-pub loop-i-init : goal.loop-i-init
-loop-i-init c = looked_none _
+pub loop-word-init : goal.loop-word-init
+loop-word-init c = looked_none _
 
-pub loop-i-preserved : goal.loop-i-preserved
-loop-i-preserved c = looked_more _ _ _ c.loop-i-test.true c.loop-i.invariant
+pub loop-word-preserved : goal.loop-word-preserved
+loop-word-preserved c = looked_more _ _ _ c.loop-word-test.true c.loop-word.invariant
 
 pub returns : goal.returns
-returns c = looked_done _ _ _ c.loop-i-test.false c.loop-i.invariant
+returns c = looked_done _ _ _ c.loop-word-test.false c.loop-word.invariant

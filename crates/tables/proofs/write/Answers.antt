@@ -1,5 +1,6 @@
 -- `tables::write` meets its contract. Assumes nothing.
 use mathlib.Core.Path.{sym, ◌∙◌}
+use native.Mathlib.Omega.{arith}
 use Rattle.tables.proofs.Words.{written_none, written_here}
 use Rattle.tables.proofs.write.Goals as goal
 
@@ -8,5 +9,5 @@ returns-else-is_number c = sym (written_none _ _ _ _ (sym c.is_number.ensures �
 
 pub returns-then-is_number : goal.returns-then-is_number
 returns-then-is_number c =
-    written_here _ _ _ _ _ _ _ _ (sym c.is_number.ensures ∙ c.if-is_number.true) c.begin.ensures.0
-    c.wide.ensures c.lesser.ensures c.put.ensures
+    written_here _ _ _ _ _ _ _ (sym c.is_number.ensures ∙ c.if-is_number.true) c.begin.ensures.0
+    (omega arith) c.put.ensures

@@ -1,16 +1,11 @@
 -- `tables::zero` meets its contract. The loop's invariant: the words that are left, set to zero in the table as it is now,
 -- give the whole.
 use mathlib.Core.Path.{sym, ◌∙◌}
-use lib.ListN.{length-set}
 use Rattle.tables.proofs.Zeros.{zeroed_more, zeroed_none}
 use Rattle.tables.proofs.zero.Goals as goal
 
 pub loop-i-preserved : goal.loop-i-preserved
-loop-i-preserved c = (
-  c.loop-i.invariant.0,
-  simp length-set c.loop-i.invariant.1,
-  c.loop-i.invariant.2 ∙ zeroed_more _ _ _ c.loop-i-test.true,
-)
+loop-i-preserved c = c.loop-i.invariant ∙ zeroed_more _ _ _ c.loop-i-test.true
 
 pub returns : goal.returns
-returns c = sym (c.loop-i.invariant.2 ∙ zeroed_none _ _ _ c.loop-i-test.false)
+returns c = sym (c.loop-i.invariant ∙ zeroed_none _ _ _ c.loop-i-test.false)

@@ -1,13 +1,8 @@
 -- `tables::zero` meets its contract. The loop's invariant: the words that are left, set to zero in the table as it is now,
 -- give the whole.
-use Prim.Native.Nat.{◌≤◌, ◌-◌}
 use mathlib.Core.Path.{◌≡◌}
-use lib.ListN.{length}
 use Rattle.tables.specs.Zeros.{zeroed}
 use Rattle.tables.proofs.zero.Given as goal
 
 abbrev pub invariant-loop-i : goal.invariant-loop-i
-invariant-loop-i l = (l.to ≤ length l.initial.table) × (length l.table ≡ length l.initial.table) × (zeroed l.initial.table l.from l.to ≡ zeroed l.table l.i l.to)
-
-abbrev pub decreases-loop-i : goal.decreases-loop-i
-decreases-loop-i l = l.to - l.i
+invariant-loop-i l = zeroed l.initial.table l.from l.to ≡ zeroed l.table l.i l.to
