@@ -1,6 +1,6 @@
 -- Texts put one behind the other are their sum put at once. Assumes nothing.
 use Prim.Native.Nat.{ℕ, suc, ◌+◌, ◌≤◌, ◌<◌}
-use mathlib.Core.Path.{◌≡◌, sym, ◌∙◌}
+use mathlib.Core.Path.{◌≡◌, refl, sym, ◌∙◌}
 use mathlib.Core.List.{List, [], ◌∷◌, ◌++◌}
 use native.Mathlib.Omega.{arith}
 use native.Mathlib.Numerals.{add-one}
@@ -48,9 +48,9 @@ module _ (text out₀ : List ℕ) (at : ℕ) where
       let z : at + suc i ≡ suc (at + i) = omega arith in
       s ∙ rw (e, add-one i, z, drop-cons text i 0 k)
 
-  pub putting_done : (out : List ℕ) (i : ℕ) → length text ≤ i → i ≤ length text → Putting out i → Puts text out₀ at out (at + i)
+  pub putting_done : (out : List ℕ) (i : ℕ) → length text ≤ i → Putting out i → Puts text out₀ at out (at + length text)
   unfolding Putting
-  putting_done out i k l s = record { written = sym (s ∙ rw (drop_of_length-le text k)); behind = omega arith }
+  putting_done out i k s = record { written = sym (s ∙ rw (drop_of_length-le text k)); behind = refl }
 
 -- ---- from the front on
 

@@ -14,7 +14,7 @@ const MOST_DIGITS: usize = 20;
 
 const RADIX: usize = 10;
 
-// Stores a byte; past the end nothing.
+// Stores a byte; past the end nothing. A test of the index is as plain here as `get_mut`.
 fn store(out: &mut [u8], at: usize, byte: u8)
     ensures { out.new ≡ set out.old at byte }
 {
@@ -37,12 +37,10 @@ pub fn put(out: &mut [u8], at: usize, text: &[u8]) -> usize
     requires { at + length text.now ≤ listing_limit }
     ensures { Puts text.now out.old at out.new result }
 {
-    let mut i: usize = 0;
-    while i < text.len() {
-        store(out, at + i, text[i]);
-        i += 1;
+    for (i, byte) in text.iter().enumerate() {
+        store(out, at + i, *byte);
     }
-    at + i
+    at + text.len()
 }
 
 // The digit of a number below ten.
