@@ -7,10 +7,10 @@ use mathlib.Core.List.{List, [], ◌∷◌, foldl}
 use native.Mathlib.Omega.{arith}
 use native.Mathlib.Numerals.{add-one}
 use native.Mathlib.Nat.{add-zero}
-use lib.Dec.{eqb}
-use lib.ListN.{length, get_or, take, drop, length-take, length-drop, drop_of_length-le}
-use lib.Seq.{take_all, drop-cons, drop-drop, get_or-take}
-use borrow.Author.Tests.{ne_eqb}
+use lib.Dec.{eqb, leb}
+use lib.ListN.{length, get_or, take, drop, length-drop, drop_of_length-le}
+use lib.Seq.{take_all, drop-cons, drop-drop}
+use borrow.Author.Tests.{ne_eqb, leb-true, leb-false}
 use Rattle.records.proofs.Choices.{if_or}
 use Rattle.text.specs.declared.Position.{Position}
 use Rattle.text.specs.declared.TextAnswer.{TextAnswer}
@@ -103,22 +103,23 @@ pass_near p q b i e (l, k) = rw e (go (eqb b 10) (begins_char b))
     go false true = (omega arith, omega arith)
     go false false = (omega arith, omega arith)
 
-pub place_start : (s : List ℕ) (offset : ℕ) → position_of s offset ≡ foldl pass (record { line = 1; column = 1 }) (drop 0 (take offset s))
+-- a place is that behind the bytes before the offset, which end with the text where it is shorter
+pub place_start : (s : List ℕ) (offset k : ℕ) → k ≡ min offset (length s) → position_of s offset ≡ foldl pass (record { line = 1; column = 1 }) (take k s)
 unfolding position_of
-place_start s offset = refl
+place_start s offset k e = ap (foldl pass (record { line = 1; column = 1 })) (go (leb offset (length s)) refl)
+  where
+    go : (b : Bool) → leb offset (length s) ≡ b → take offset s ≡ take k s
+    go true h = let l : offset ≤ length s = leb-true _ _ h in let z : k ≡ offset = omega arith in rw z
+    go false h =
+        let l : length s < offset = leb-false _ _ h in
+        let m : length s ≤ offset = omega arith in
+        let n : length s ≤ k = omega arith in
+        take_all offset s m ∙ sym (take_all k s n)
 
-module _ (s : List ℕ) (offset i : ℕ) (p : Position) where
-  pub place_more : (q : Position) → q ≡ pass p (get_or s i 0) → i < length s → i ≤ offset → (i ≡ offset → ⊥) → foldl pass p (drop i (take offset s)) ≡ foldl pass q (drop (i + 1) (take offset s))
-  place_more q e h k n =
-      let d : i < offset = omega arith in
-      let l : i < length (take offset s) = simp length-take (omega arith) in
-      rw (e, add-one i, drop-cons (take offset s) i 0, get_or-take offset s i 0)
+-- one byte more, and none
+module _ (bs : List ℕ) (i : ℕ) (p : Position) where
+  pub place_more : (q : Position) → q ≡ pass p (get_or bs i 0) → i < length bs → foldl pass p (drop i bs) ≡ foldl pass q (drop (i + 1) bs)
+  place_more q e h = rw (e, add-one i, drop-cons bs i 0)
 
-  place_end : min offset (length s) ≤ i → foldl pass p (drop i (take offset s)) ≡ p
-  place_end h = let l : length (take offset s) ≤ i = simp length-take (omega arith) in rw drop_of_length-le
-
-  pub place_there : i ≡ offset → foldl pass p (drop i (take offset s)) ≡ p
-  place_there e = place_end (omega arith)
-
-  pub place_past : length s ≤ i → foldl pass p (drop i (take offset s)) ≡ p
-  place_past h = place_end (omega arith)
+  pub place_done : length bs ≤ i → p ≡ foldl pass p (drop i bs)
+  place_done h = rw drop_of_length-le

@@ -113,6 +113,7 @@ fn char_len(s: &[u8]) -> usize
 pub fn check_text(source: &[u8]) -> TextAnswer
     ensures { result ≡ check_text source.now }
 {
+    // No `for` fits: a turn goes as far as its character.
     let mut i: usize = 0;
     while i < source.len() {
         let n = char_len(&source[i..]);
@@ -163,13 +164,8 @@ pub fn offset_to_position(source: &[u8], offset: usize) -> Position
     ensures { result ≡ position_of source.now offset }
 {
     let mut p = Position { line: 1, column: 1 };
-    let mut i: usize = 0;
-    while i < source.len() {
-        if i == offset {
-            return p;
-        }
-        p = pass_byte(p, source[i]);
-        i += 1;
+    for byte in &source[..offset.min(source.len())] {
+        p = pass_byte(p, *byte);
     }
     p
 }
