@@ -32,23 +32,16 @@ const DIGIT_BASE: u8 = b'0';
 
 const LETTER_BASE: u8 = b'a' - 10;
 
-// How many digits stand behind a literal's prefix.
-fn digit_count(len: u32) -> u32
-    ensures { result ≡ len - 2 }
-{
-    if PREFIX <= len { len - PREFIX } else { 0 }
-}
-
 // How many bits a literal has, by its kind and how many bytes it has.
 pub fn bit_length(kind: TokenKind, len: u32) -> u32
     requires { len ≤ source_limit }
     ensures { result ≡ bit_length kind len }
 {
     if kind.0 == TokenKind::BIN_LITERAL {
-        return digit_count(len);
+        return len.saturating_sub(PREFIX);
     }
     if kind.0 == TokenKind::HEX_LITERAL {
-        return BITS_PER_HEX * digit_count(len);
+        return BITS_PER_HEX * len.saturating_sub(PREFIX);
     }
     0
 }
@@ -57,17 +50,16 @@ pub fn bit_length(kind: TokenKind, len: u32) -> u32
 pub fn saturating_sub(a: u8, b: u8) -> u8
     ensures { result ≡ a - b }
 {
-    if b <= a { a - b } else { 0 }
+    a.saturating_sub(b)
 }
 
 // The value of a digit 0 to 9, a to f.
 fn digit_value(d: u8) -> u8
     ensures { result ≡ value_of d }
 {
-    if (b'0' <= d) & (d <= b'9') {
-        saturating_sub(d, DIGIT_BASE)
-    } else {
-        saturating_sub(d, LETTER_BASE)
+    match d {
+        b'0'..=b'9' => d - DIGIT_BASE,
+        _ => d.saturating_sub(LETTER_BASE),
     }
 }
 
@@ -88,6 +80,7 @@ fn is_digits(text: &[u8], prefix: &[u8], c: Class) -> bool
 }
 
 // The number that four binary digits from `at` on say.
+#[tactic(auto, using(crate::proofs::Packed::bit_small))]
 fn bin_nibble(digits: &[u8], at: usize) -> u8
     requires { (every Bit digits.now ≡ true) × (at < 2 ^ 60) }
     ensures { (result ≡ nibble_at digits.now at) × (result < 16) }
@@ -109,6 +102,7 @@ fn bin_byte(digits: &[u8], index: usize) -> u8
 }
 
 // of hex digits,
+#[tactic(auto, using(crate::proofs::Packed::hex_small))]
 fn hex_byte(digits: &[u8], index: usize) -> u8
     requires { (every LowHex digits.now ≡ true) × (index < 2 ^ 32) }
     ensures { result ≡ packed_byte (hex_bits digits.now) index }

@@ -9,8 +9,8 @@ returns c = rw (ne_eqb _ _ c.if-kind-eq-BIN_LITERAL.false, ne_eqb _ _ c.if-kind-
 
 pub returns-then-kind-eq-BIN_LITERAL : goal.returns-then-kind-eq-BIN_LITERAL
 unfolding bit_length
-returns-then-kind-eq-BIN_LITERAL c = rw (eq-eqb _ _ c.if-kind-eq-BIN_LITERAL.true, c.digit_count.ensures)
+returns-then-kind-eq-BIN_LITERAL c = rw (eq-eqb _ _ c.if-kind-eq-BIN_LITERAL.true, c.saturating_sub.ensures)
 
 pub returns-then-kind-eq-HEX_LITERAL : goal.returns-then-kind-eq-HEX_LITERAL
 unfolding bit_length
-returns-then-kind-eq-HEX_LITERAL c = rw (ne_eqb _ _ c.if-kind-eq-BIN_LITERAL.false, eq-eqb _ _ c.if-kind-eq-HEX_LITERAL.true, c.digit_count-then-kind-eq-HEX_LITERAL.ensures)
+returns-then-kind-eq-HEX_LITERAL c = rw (ne_eqb _ _ c.if-kind-eq-BIN_LITERAL.false, eq-eqb _ _ c.if-kind-eq-HEX_LITERAL.true, c.saturating_sub-then-kind-eq-HEX_LITERAL.ensures)
