@@ -4,31 +4,17 @@
 ghost use Rattle.std.specs.Prelude.{◌≡◌};
 ghost use Rattle.records.specs.Limits.{name_width};
 ghost use Rattle.tables.specs.Tables.{span_at};
-ghost use Rattle.checks.specs.Jets.{same};
 ghost use Rattle.symbols.specs.Symbols.{illegal, find_from};
 ghost use Rattle.symbols.specs.Texts.{name_text, texts_from};
 
 use records::numbers::{ByteOffset, NameNo};
 use records::{NameRecord, Span};
 
-// Whether two texts are the same.
-fn same_text(a: &[u8], b: &[u8]) -> bool
-    ensures { result ≡ same a.now b.now }
-{
-    if a.len() != b.len() {
-        return false;
-    }
-    classes::stands(a, b)
-}
-
 // Whether no line may have this name: it is `_` or begins with `prim`.
 pub fn is_illegal(text: &[u8]) -> bool
     ensures { result ≡ illegal text.now }
 {
-    if same_text(text, b"_") {
-        return true;
-    }
-    classes::stands(text, b"prim")
+    text == b"_".as_slice() || classes::stands(text, b"prim")
 }
 
 // The span of a name, from its record.
@@ -53,11 +39,9 @@ fn name_text<'a>(source: &'a [u8], names: &[u32], number: NameNo) -> &'a [u8]
 pub fn find_name(source: &[u8], names: &[u32], count: u32, text: &[u8]) -> NameNo
     ensures { result.0 ≡ find_from 1 (texts_from source.now names.now 1 count) text.now }
 {
-    let mut i: u32 = 0;
-    while i < count {
-        i += 1;
+    for i in 1..=count {
         let name = name_text(source, names, NameNo(i));
-        if same_text(name, text) {
+        if name == text {
             return NameNo(i);
         }
     }

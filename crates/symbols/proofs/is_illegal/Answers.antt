@@ -1,9 +1,10 @@
 -- `symbols::is_illegal` meets its contract. Assumes nothing.
+use Rattle.std.proofs.Common.{rules}
 use Rattle.symbols.proofs.Texts.{illegal_blank, illegal_prim}
 use Rattle.symbols.proofs.is_illegal.Goals as goal
 
-pub returns : goal.returns
-returns c = illegal_prim _ _ _ c.same_text.ensures c.if-same_text.false c.stands.ensures
+pub returns-else-eq : goal.returns-else-eq
+returns-else-eq c = illegal_prim _ _ _ (search rules) c.if-eq.false c.stands.ensures
 
-pub returns-then-same_text : goal.returns-then-same_text
-returns-then-same_text c = illegal_blank _ _ c.same_text.ensures c.if-same_text.true
+pub returns-then-eq : goal.returns-then-eq
+returns-then-eq c = illegal_blank _ _ (search rules) c.if-eq.true
