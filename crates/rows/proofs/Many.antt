@@ -1,7 +1,7 @@
 -- Rows put one by one, and names counted one by one. Assumes nothing.
 use Rattle.std.specs.Prelude.{if◌then◌else◌}
 use Prim.Native.Nat.{ℕ, suc, ◌+◌, ◌-◌, ◌≤◌, ◌<◌}
-use mathlib.Core.Bool.{Bool}
+use mathlib.Core.Bool.{Bool, true, false}
 use mathlib.Core.Path.{◌≡◌, sym, ◌∙◌}
 use mathlib.Core.List.{List}
 use native.Mathlib.Omega.{arith}
@@ -12,67 +12,70 @@ use Rattle.rows.proofs.Pieces.{first_fits, rest_fits, puts_then, same_puts, same
 
 -- ---- rows
 
--- Of n rows i are put: what is left has room, and put into the output as it is now, gives the whole.
+-- Of the rows 1 to n those before i are put: what is left has room, and put into the output as it is now, gives the whole.
 pub record RowsLeft (f : ℕ → List ℕ) (n : ℕ) (out₀ : List ℕ) (at₀ i : ℕ) (out : List ℕ) (at : ℕ) : Type 0 where
-  pub room : Room at (rows_from f (n - i) (suc i))
-  pub gives : (out' : List ℕ) (r : ℕ) → Puts (rows_from f (n - i) (suc i)) out at out' r → Puts (rows_from f n 1) out₀ at₀ out' r
+  pub room : Room at (rows_from f (suc n - i) i)
+  pub gives : (out' : List ℕ) (r : ℕ) → Puts (rows_from f (suc n - i) i) out at out' r → Puts (rows_from f n 1) out₀ at₀ out' r
 
 -- one row, and those behind it
-next_row : (f : ℕ → List ℕ) (n i : ℕ) → i < n → rows_from f (n - i) (suc i) ≡ f (i + 1) then rows_from f (n - (i + 1)) (suc (i + 1))
+next_row : (f : ℕ → List ℕ) (n i : ℕ) → i ≤ n → rows_from f (suc n - i) i ≡ f i then rows_from f (suc n - (i + 1)) (i + 1)
 unfolding rows_from
 next_row f n i h =
-    let e : n - i ≡ suc (n - (i + 1)) = omega arith in
+    let e : suc n - i ≡ suc (suc n - (i + 1)) = omega arith in
     rw (e, add-one i)
 
 module _ {f : ℕ → List ℕ} {n : ℕ} where
-  pub rows_none : {out : List ℕ} {at : ℕ} → Room at (rows_from f n 1) → RowsLeft f n out at 0 out at
+  pub rows_none : {out : List ℕ} {at : ℕ} → Room at (rows_from f n 1) → RowsLeft f n out at 1 out at
   rows_none h =
-      let e : n - 0 ≡ n = omega arith in
+      let e : suc n - 1 ≡ n = omega arith in
       record { room = rw e h; gives = λ out' r p. rw e at p }
 
   module _ {out₀ out : List ℕ} {at₀ i at : ℕ} (left : RowsLeft f n out₀ at₀ i out at) where
-    pub rows_next : i < n → Room at (f (i + 1))
+    pub rows_next : i ≤ n → Room at (f i)
     rows_next h = first_fits _ (same_fits (next_row f n i h) left.room)
 
-    pub rows_more : {out' : List ℕ} {r : ℕ} → i < n → Puts (f (i + 1)) out at out' r → RowsLeft f n out₀ at₀ (i + 1) out' r
+    pub rows_more : {out' : List ℕ} {r : ℕ} → i ≤ n → Puts (f i) out at out' r → RowsLeft f n out₀ at₀ (i + 1) out' r
     rows_more h p = record {
       room = rest_fits p (same_fits (next_row f n i h) left.room);
       gives = λ out'' r' q. left.gives out'' r' (same_puts (next_row f n i h) (puts_then p q));
     }
 
-    pub rows_done : n ≤ i → Puts (rows_from f n 1) out₀ at₀ out at
+    pub rows_done : n < i → Puts (rows_from f n 1) out₀ at₀ out at
     unfolding rows_from
     rows_done h =
-        let e : n - i ≡ 0 = omega arith in
+        let e : suc n - i ≡ 0 = omega arith in
         left.gives out at (rw e (puts_nothing out at))
 
 -- ---- counting
 
--- Of n numbers i are looked at, and so many passed the test.
+-- Of the numbers 1 to n those before i are looked at, and so many passed the test.
 pub record CountLeft (test : ℕ → Bool) (n i count : ℕ) : Type 0 where
-  pub few : count ≤ i
-  pub sum : count_from test n 1 ≡ count + count_from test (n - i) (suc i)
+  pub few : count < i
+  pub sum : count_from test n 1 ≡ count + count_from test (suc n - i) i
 
-next_count : (test : ℕ → Bool) (n i : ℕ) → i < n → count_from test (n - i) (suc i) ≡ (if test (i + 1) then 1 else 0) + count_from test (n - (i + 1)) (suc (i + 1))
+next_count : (test : ℕ → Bool) (n i : ℕ) → i ≤ n → count_from test (suc n - i) i ≡ (if test i then 1 else 0) + count_from test (suc n - (i + 1)) (i + 1)
 unfolding count_from
 next_count test n i h =
-    let e : n - i ≡ suc (n - (i + 1)) = omega arith in
+    let e : suc n - i ≡ suc (suc n - (i + 1)) = omega arith in
     rw (e, add-one i)
 
-module _ {test : ℕ → Bool} {n : ℕ} where
-  module _ {i count : ℕ} (left : CountLeft test n i count) where
-    pub count_more : {b : Bool} {one : ℕ} → i < n → b ≡ test (i + 1) → (one ≡ (if b then 1 else 0)) × (one ≤ 1) → CountLeft test n (i + 1) (count + one)
-    count_more {b} {one} h e p =
-        let o : one ≡ (if test (i + 1) then 1 else 0) = rw e at p.0 in
-        record { few = omega (arith, left.few, p.1); sum = left.sum ∙ rw (next_count test n i h, ← o) (omega arith) }
+module _ {test : ℕ → Bool} {n i count : ℕ} (left : CountLeft test n i count) where
+  -- number i passes,
+  pub count_one : {b : Bool} → i ≤ n → b ≡ test i → b ≡ true → CountLeft test n (i + 1) (count + 1)
+  count_one h e y = record { few = omega (arith, left.few); sum = left.sum ∙ rw (next_count test n i h, sym e ∙ y) (omega arith) }
 
-    pub count_done : n ≤ i → count ≡ count_from test n 1
-    unfolding count_from
-    count_done h =
-        let e : n - i ≡ 0 = omega arith in
-        sym (left.sum ∙ rw e (omega arith))
+  -- or it does not,
+  pub count_same : {b : Bool} → i ≤ n → b ≡ test i → b ≡ false → CountLeft test n (i + 1) count
+  count_same h e y = record { few = omega (arith, left.few); sum = left.sum ∙ rw (next_count test n i h, sym e ∙ y) (omega arith) }
 
-pub count_none : (test : ℕ → Bool) (n : ℕ) → CountLeft test n 0 0
+  -- or none is left
+  pub count_done : n < i → count ≡ count_from test n 1
+  unfolding count_from
+  count_done h =
+      let e : suc n - i ≡ 0 = omega arith in
+      sym (left.sum ∙ rw e (omega arith))
+
+pub count_none : (test : ℕ → Bool) (n : ℕ) → CountLeft test n 1 0
 count_none test n =
-    let e : n - 0 ≡ n = omega arith in
+    let e : suc n - 1 ≡ n = omega arith in
     record { few = omega arith; sum = rw e (omega arith) }

@@ -1,4 +1,5 @@
 -- The rows of the listing as the code reads them from the tables, for any words whatever.
+use Rattle.std.specs.Borrow.{MutBor}
 use Rattle.std.specs.Prelude.{ℕ, zero, suc, ◌+◌, ◌≤◌, Bool, List, [], ◌∷◌, ◌++◌, length, if◌then◌else◌}
 use Rattle.records.specs.Base.{bytes}
 use Rattle.records.specs.Limits.{error_width}
@@ -7,7 +8,7 @@ use Rattle.tables.specs.Tables.{word_at, span_at}
 use Rattle.literals.specs.Literals.{span_text}
 use Rattle.resolve.specs.Words.{node_at}
 use Rattle.access.specs.Access.{name_text_of, is_root_at}
-use Rattle.print.specs.Text.{decimal, printed_row, listing_limit}
+use Rattle.print.specs.Text.{decimal, printed_row, listing_limit, Puts}
 use Rattle.rows.specs.Rows.{head_row, node_row, error_row}
 
 -- ---- pieces of text
@@ -35,6 +36,15 @@ word_no words places n = span_text words (span_at 2 places n 0)
 unfoldable pub rows_from : (row_of : ℕ → List ℕ) → (count i : ℕ) → List ℕ
 rows_from row_of zero i = []
 rows_from row_of (suc c) i = row_of i then rows_from row_of c (suc i)
+
+-- so many rows from number 1 on may be written where there is room
+abbrev pub MayPut : (pre : MutBor (List ℕ) → ℕ → ℕ → Type 0) → (row_of : ℕ → List ℕ) → (count : ℕ) → Type 0
+MayPut pre row_of count = (out : MutBor (List ℕ)) (at i : ℕ) → 1 ≤ i → i ≤ count → Room at (row_of i) → pre out at i
+
+-- and each writes its text
+abbrev pub PutsRows : (post : MutBor (List ℕ) → ℕ → ℕ → ℕ → MutBor (List ℕ) → Type 0) → (row_of : ℕ → List ℕ) → (count : ℕ) → Type 0
+PutsRows post row_of count =
+    (out out' : MutBor (List ℕ)) (at i r : ℕ) → 1 ≤ i → i ≤ count → post out at i r out' → Puts (row_of i) out.now at out'.now r
 
 -- how many of so many numbers from i on pass a test
 unfoldable pub count_from : (test : ℕ → Bool) → (count i : ℕ) → ℕ

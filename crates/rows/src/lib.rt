@@ -1,12 +1,12 @@
 // The rows of the listing, put into a lent output.
 #![tactic(auto)]
 
-ghost use Rattle.std.specs.Prelude.{◌≡◌, ◌≤◌, length, if◌then◌else◌};
+ghost use Rattle.std.specs.Prelude.{◌≡◌, ◌≤◌, ℕ, List, length};
 ghost use Rattle.text.specs.Place.{position_of};
 ghost use Rattle.print.specs.Text.{decimal, place_word, listing_limit, Puts};
 ghost use Rattle.access.specs.Access.{name_text_of, is_root_at};
 ghost use Rattle.rows.specs.Rows.{node_word, error_word, name_word, refused_place, refused_row};
-ghost use Rattle.rows.specs.Words.{◌then◌, ended, Room, word_no, rows_from, count_from, value_end, node_row_at, nodes_at, root_row_at, roots_at, error_row_at, errors_at, listed_at};
+ghost use Rattle.rows.specs.Words.{◌then◌, ended, Room, word_no, rows_from, MayPut, PutsRows, count_from, value_end, node_row_at, nodes_at, root_row_at, roots_at, error_row_at, errors_at, listed_at};
 
 use records::numbers::{ByteOffset, NameNo};
 use records::refusals::Refusal;
@@ -47,11 +47,9 @@ fn put_word_no(out: &mut [u8], at: usize, words: &[u8], places: &[u32], number: 
     requires { Room at (ended (word_no words.now places.now number) 32) }
     ensures { Puts (ended (word_no words.now places.now number) 32) out.old at out.new result }
 {
-    let start = tables::word(places, PLACE_WORDS, number, 0);
-    let len = tables::word(places, PLACE_WORDS, number, 1);
     let span = Span {
-        start: ByteOffset(start),
-        len,
+        start: ByteOffset(tables::word(places, PLACE_WORDS, number, 0)),
+        len: tables::word(places, PLACE_WORDS, number, 1),
     };
     put_word(out, at, cursor::span_text(words, span), b' ')
 }
@@ -67,12 +65,11 @@ fn put_node_kind(out: &mut [u8], at: usize, kind: u32) -> usize
     requires { Room at (ended (node_word kind) 32) }
     ensures { Puts (ended (node_word kind) 32) out.old at out.new result }
 {
-    let places = NODE_WORDS;
     put_word_no(
         out,
         at,
         b"missing noexpr ref assertl assertr iden unit injl injr take drop comp case pair disconnect witness hole fail jet word",
-        &places,
+        &NODE_WORDS,
         kind,
     )
 }
@@ -85,12 +82,11 @@ fn put_error_kind(out: &mut [u8], at: usize, kind: u32) -> usize
     requires { Room at (ended (error_word kind) 32) }
     ensures { Puts (ended (error_word kind) 32) out.old at out.new result }
 {
-    let places = ERROR_WORDS;
     put_word_no(
         out,
         at,
         b"illegal repeated missing incomplete",
-        &places,
+        &ERROR_WORDS,
         kind,
     )
 }
@@ -178,15 +174,18 @@ fn put_error(out: &mut [u8], at: usize, source: &[u8], errors: &[u32], number: u
 {
     let kind = tables::word(errors, ErrorRecord::WORDS, number, ErrorRecord::KIND);
     let start = tables::word(errors, ErrorRecord::WORDS, number, ErrorRecord::START);
-    let name = tables::word(errors, ErrorRecord::WORDS, number, ErrorRecord::NAME_START);
-    let len = tables::word(errors, ErrorRecord::WORDS, number, ErrorRecord::NAME_LEN);
+    let name = Span {
+        start: ByteOffset(tables::word(
+            errors,
+            ErrorRecord::WORDS,
+            number,
+            ErrorRecord::NAME_START,
+        )),
+        len: tables::word(errors, ErrorRecord::WORDS, number, ErrorRecord::NAME_LEN),
+    };
     let at = put_error_kind(out, at, kind);
     let at = put_offset(out, at, source, start);
-    let span = Span {
-        start: ByteOffset(name),
-        len,
-    };
-    put_word(out, at, cursor::span_text(source, span), b'\n')
+    put_word(out, at, cursor::span_text(source, name), b'\n')
 }
 
 // Writes the row of a name, if it is a root.
@@ -238,88 +237,36 @@ fn put_value(out: &mut [u8], at: usize, value: u32) -> usize
     put_number(out, at, value, b'\n')
 }
 
-// Writes the rows of the nodes.
-fn put_node_rows(
+// Writes so many rows from number 1 on, each by what writes one row.
+fn put_rows<F: Fn(&mut [u8], usize, u32) -> usize>(
     out: &mut [u8],
     at: usize,
-    source: &[u8],
-    names: &[u32],
-    named: u32,
-    nodes: &[u32],
-    made: u32,
+    count: u32,
+    put_row: F,
 ) -> usize
-    requires { Room at (rows_from (node_row_at source.now names.now named nodes.now) made 1) }
-    ensures { Puts (rows_from (node_row_at source.now names.now named nodes.now) made 1) out.old at out.new result }
+    ghost row_of: { (number : ℕ) → List ℕ }
+    requires room { Room at (rows_from row_of count 1) }
+    requires may { MayPut (F.pre put_row) row_of count }
+    requires puts { PutsRows (F.post put_row) row_of count }
+    ensures { Puts (rows_from row_of count 1) out.old at out.new result }
 {
     let mut behind = at;
-    let mut i: u32 = 0;
-    while i < made {
-        behind = put_node(out, behind, source, names, named, nodes, i + 1);
-        i += 1;
+    for number in 1..=count {
+        behind = put_row(out, behind, number);
     }
     behind
-}
-
-// Writes the rows of the roots.
-fn put_root_rows(
-    out: &mut [u8],
-    at: usize,
-    source: &[u8],
-    names: &[u32],
-    named: u32,
-    nodes: &[u32],
-    made: u32,
-) -> usize
-    requires { Room at (rows_from (root_row_at source.now names.now named nodes.now made) named 1) }
-    ensures { Puts (rows_from (root_row_at source.now names.now named nodes.now made) named 1) out.old at out.new result }
-{
-    let mut behind = at;
-    let mut i: u32 = 0;
-    while i < named {
-        behind = put_root(
-            out,
-            behind,
-            source,
-            names,
-            named,
-            nodes,
-            made,
-            NameNo(i + 1),
-        );
-        i += 1;
-    }
-    behind
-}
-
-// Writes the rows of the errors.
-fn put_error_rows(out: &mut [u8], at: usize, source: &[u8], errors: &[u32], count: u32) -> usize
-    requires { Room at (rows_from (error_row_at source.now errors.now) count 1) }
-    ensures { Puts (rows_from (error_row_at source.now errors.now) count 1) out.old at out.new result }
-{
-    let mut behind = at;
-    let mut i: u32 = 0;
-    while i < count {
-        behind = put_error(out, behind, source, errors, i + 1);
-        i += 1;
-    }
-    behind
-}
-
-fn one_if(test: bool) -> u32
-    ensures { (result ≡ (if test then 1 else 0)) × (result ≤ 1) }
-{
-    if test { 1 } else { 0 }
 }
 
 // How many names are roots.
 fn count_roots(names: &[u32], named: u32, nodes: &[u32], made: u32) -> u32
     ensures { result ≡ count_from (is_root_at names.now named nodes.now made) named 1 }
 {
-    let mut count: u32 = 0;
-    let mut i: u32 = 0;
-    while i < named {
-        count += one_if(access::is_root(names, named, nodes, made, NameNo(i + 1)));
-        i += 1;
+    // A `for`, since nothing says which numbers a chain over `1..=named` yields.
+    let mut count = 0;
+    for number in 1..=named {
+        if access::is_root(names, named, nodes, made, NameNo(number)) {
+            count += 1;
+        }
     }
     count
 }
@@ -347,7 +294,9 @@ fn put_nodes(
     ensures { Puts (nodes_at source.now names.now named nodes.now made) out.old at out.new result }
 {
     let at = put_head(out, at, b"nodes", made);
-    put_node_rows(out, at, source, names, named, nodes, made)
+    put_rows(out, at, made, |out, at, number| {
+        put_node(out, at, source, names, named, nodes, number)
+    })
 }
 
 // Writes the count of the roots, and their rows.
@@ -365,7 +314,9 @@ fn put_roots(
 {
     let count = count_roots(names, named, nodes, made);
     let at = put_head(out, at, b"roots", count);
-    put_root_rows(out, at, source, names, named, nodes, made)
+    put_rows(out, at, named, |out, at, number| {
+        put_root(out, at, source, names, named, nodes, made, NameNo(number))
+    })
 }
 
 // Writes the count of the errors, and their rows.
@@ -374,7 +325,9 @@ fn put_errors(out: &mut [u8], at: usize, source: &[u8], errors: &[u32], count: u
     ensures { Puts (errors_at source.now errors.now count) out.old at out.new result }
 {
     let at = put_head(out, at, b"errors", count);
-    put_error_rows(out, at, source, errors, count)
+    put_rows(out, at, count, |out, at, number| {
+        put_error(out, at, source, errors, number)
+    })
 }
 
 // Writes the nodes, roots and errors that the tables hold, and answers how long that text is.
@@ -400,10 +353,8 @@ pub fn list_tables(
 pub fn list_refusal(source: &[u8], refusal: Refusal, out: &mut [u8]) -> usize
     ensures { Puts (refused_row source.now refusal) out.old 0 out.new result }
 {
-    let no = refusal.no;
-    let value = refusal.value;
     let at = print::put(out, 0, b"refused ");
-    let at = put_number(out, at, no, b' ');
+    let at = put_number(out, at, refusal.no, b' ');
     let at = put_refused_place(out, at, source, refusal);
-    put_value(out, at, value)
+    put_value(out, at, refusal.value)
 }
