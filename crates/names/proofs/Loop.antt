@@ -1,4 +1,4 @@
--- The loop over lines: i lines were entered, and the tables hold their names and errors. Assumes nothing.
+-- The loop over lines: those before number i were entered, and the tables hold their names and errors. Assumes nothing.
 use Prim.Native.Nat.{ℕ, suc, ◌+◌, ◌*◌, ◌≤◌, ◌<◌}
 use mathlib.Core.Path.{◌≡◌, refl, sym, ap, subst, ◌∙◌}
 use mathlib.Core.List.{List, [], ◌∷◌, ◌++◌, append_assoc, append-nil}
@@ -22,16 +22,16 @@ use Rattle.tables.proofs.Reading.{table_reads}
 use Rattle.names.proofs.Reading.{line_row}
 use Rattle.names.proofs.Entering.{Going, going_more}
 
--- so many of the lines ls were entered
+-- the lines of ls before number i were entered
 pub record SoFar (old_n old_e : List ℕ) (ls : List Line) (i : ℕ) (c : NameCounts) (ns es : List ℕ) : Type 0 where
   pub done : List Line
   pub rest : List Line
   pub whole : ls ≡ done ++ rest
-  pub size : length done ≡ i
+  pub size : suc (length done) ≡ i
   pub going : Going old_n old_e done c ns es
 
 module _ (source lines exprs old_n old_e : List ℕ) (count : ℕ) (ls : List Line) (h : HeldLines source lines exprs count ls) where
-  pub so_far_start : (ns es : List ℕ) → ns ≡ table_of name_width [] old_n → es ≡ table_of error_width [] old_e → SoFar old_n old_e ls 0 (record { names = 0; errors = 0 }) ns es
+  pub so_far_start : (ns es : List ℕ) → ns ≡ table_of name_width [] old_n → es ≡ table_of error_width [] old_e → SoFar old_n old_e ls 1 (record { names = 0; errors = 0 }) ns es
   unfolding names_of name_rows errors_from error_rows
   so_far_start ns es en ee = record { done = []; rest = ls; whole = refl; size = refl; going = record { names = refl; errors = refl; names_in = en; errors_in = ee } }
 
@@ -45,25 +45,24 @@ module _ (source lines exprs old_n old_e : List ℕ) (count : ℕ) (ls : List Li
       ∙ ap (λ (ks : List Line). get_or (get_or (line_rows ks) (length done) []) j 0) e ∙ ap (λ (r : List ℕ). get_or r j 0) (line_row done rest l) in
       line_words_law source lines exprs ns n (suc (length done)) _ _ _ _ (sym (word 0)) (sym (word 1)) (sym (word 2)) refl
 
-  pub so_far_more : (i : ℕ) (c r : NameCounts) (ns ns' es es' : List ℕ) → i < count → SoFar old_n old_e ls i c ns es → Enters (line_entry source lines exprs ns c.names (i + 1)) c r ns ns' es es' → SoFar old_n old_e ls (i + 1) r ns' es'
+  pub so_far_more : (i : ℕ) (c r : NameCounts) (ns ns' es es' : List ℕ) → i ≤ count → SoFar old_n old_e ls i c ns es → Enters (line_entry source lines exprs ns c.names i) c r ns ns' es es' → SoFar old_n old_e ls (i + 1) r ns' es'
   so_far_more i c r ns ns' es es' below s w = go s.rest s.whole
     where
       go : (rest : List Line) → ls ≡ s.done ++ rest → SoFar old_n old_e ls (i + 1) r ns' es'
       go [] e = absurd (omega (arith, below, h.counted, s.size, ap length (e ∙ append-nil s.done)))
       go (l ∷ rest) e =
-          let n : i + 1 ≡ suc (length s.done) = omega (arith, s.size) in
-          let entry : line_entry source lines exprs ns c.names (i + 1) ≡ name_entry source exprs ns c.names (span_of l.name) (part_no (line_part l) (total exprs_of s.done)) = ap (line_entry source lines exprs ns c.names) n ∙ sym (line_entry_law s.done rest l e ns c.names) in
+          let entry : line_entry source lines exprs ns c.names i ≡ name_entry source exprs ns c.names (span_of l.name) (part_no (line_part l) (total exprs_of s.done)) = ap (line_entry source lines exprs ns c.names) (sym s.size) ∙ sym (line_entry_law s.done rest l e ns c.names) in
           record {
             done = s.done ++ (l ∷ []);
             rest = rest;
             whole = e ∙ sym (append_assoc s.done (l ∷ []) rest);
-            size = length-append s.done (l ∷ []) ∙ ap (λ (k : ℕ). k + 1) s.size;
+            size = omega (arith, s.size, length-append s.done (l ∷ []));
             going =
                 going_more source exprs old_n old_e s.done rest l (subst (λ (ks : List Line). Held source exprs ks) e h.held) c ns es s.going r ns' es'
                 (subst (λ (q : Entry). Enters q c r ns ns' es es') entry w);
           }
 
-  pub so_far_all : (i : ℕ) (c : NameCounts) (ns es : List ℕ) → count ≤ i → SoFar old_n old_e ls i c ns es → Entered ls c old_n ns old_e es
+  pub so_far_all : (i : ℕ) (c : NameCounts) (ns es : List ℕ) → count < i → SoFar old_n old_e ls i c ns es → Entered ls c old_n ns old_e es
   so_far_all i c ns es end s = go s.rest s.whole
     where
       go : (rest : List Line) → ls ≡ s.done ++ rest → Entered ls c old_n ns old_e es

@@ -34,11 +34,10 @@ fn known_entry(exprs: &[u32], names: &[u32], known: NameNo, name: Span, expr: Ex
     ensures { result ≡ known_entry exprs.now names.now known.0 name expr.0 }
 {
     if tables::word(names, NameRecord::WORDS, known.0, NameRecord::EXPR) == 0 {
-        let span = symbols::name_span(names, known);
         return Entry::Known(
             known,
             NameRecord {
-                span,
+                span: symbols::name_span(names, known),
                 expr,
                 node: NodeNo(0),
             },
@@ -82,10 +81,9 @@ fn name_entry(
 {
     let text = cursor::span_text(source, name);
     if symbols::is_illegal(text) {
-        let start = name.start;
         return Entry::Wrong(ErrorRecord {
             kind: ErrorKind(ErrorKind::ILLEGAL),
-            start,
+            start: name.start,
             name,
         });
     }
@@ -110,13 +108,11 @@ fn line_entry(
     ensures { result ≡ line_entry source.now lines.now exprs.now names.now count number.0 }
 {
     let i = number.0;
-    let start = tables::word(lines, LineRecord::WORDS, i, LineRecord::NAME_START);
-    let len = tables::word(lines, LineRecord::WORDS, i, LineRecord::NAME_LEN);
-    let expr = tables::word(lines, LineRecord::WORDS, i, LineRecord::EXPR);
     let name = Span {
-        start: ByteOffset(start),
-        len,
+        start: ByteOffset(tables::word(lines, LineRecord::WORDS, i, LineRecord::NAME_START)),
+        len: tables::word(lines, LineRecord::WORDS, i, LineRecord::NAME_LEN),
     };
+    let expr = tables::word(lines, LineRecord::WORDS, i, LineRecord::EXPR);
     name_entry(source, exprs, names, count, name, ExprNo(expr))
 }
 
@@ -154,7 +150,7 @@ fn enter_line(
             put_name(names, NameNo(made), name);
             NameCounts {
                 names: made,
-                errors: counts.errors,
+                ..counts
             }
         }
         Entry::Known(known, name) => {
@@ -165,8 +161,8 @@ fn enter_line(
             let made = cursor::next_number(counts.errors);
             put_error(errors, ErrorNo(made), error);
             NameCounts {
-                names: counts.names,
                 errors: made,
+                ..counts
             }
         }
         Entry::Nothing => counts,
@@ -191,10 +187,8 @@ pub fn enter_names(
         names: 0,
         errors: 0,
     };
-    let mut i: u32 = 0;
-    while i < count {
-        i += 1;
-        counts = enter_line(source, lines, LineNo(i), exprs, names, errors, counts);
+    for number in 1..=count {
+        counts = enter_line(source, lines, LineNo(number), exprs, names, errors, counts);
     }
     counts
 }

@@ -1,6 +1,6 @@
 -- `names::enter_names` meets its contract. The loop's invariant: `SoFar`, for all tables that were cleared into those where the loop
 -- begins, and all lines that are held. Assumes nothing.
-use Prim.Native.Nat.{ℕ, ◌-◌}
+use Prim.Native.Nat.{ℕ}
 use mathlib.Core.Path.{◌≡◌}
 use mathlib.Core.List.{List, []}
 use lib.ListN.{length}
@@ -11,11 +11,8 @@ use Rattle.names.specs.Held.{HeldLines}
 use Rattle.names.proofs.Loop.{SoFar}
 use Rattle.names.proofs.enter_names.Given as goal
 
-abbrev pub invariant-loop-i : goal.invariant-loop-i
-invariant-loop-i l =
+abbrev pub invariant-loop-number : goal.invariant-loop-number
+invariant-loop-number l =
     (length l.names ≡ length l.initial.names) × (length l.errors ≡ length l.initial.errors)
     × ((old_n old_e : List ℕ) → l.initial.names ≡ table_of name_width [] old_n → l.initial.errors ≡ table_of error_width [] old_e → (ls : List Line) → HeldLines l.source l.lines l.exprs l.count ls
-    → SoFar old_n old_e ls l.i l.counts l.names l.errors)
-
-abbrev pub decreases-loop-i : goal.decreases-loop-i
-decreases-loop-i l = l.count - l.i
+    → SoFar old_n old_e ls l.number l.counts l.names l.errors)

@@ -9,4 +9,4 @@ pub returns-then-expr-eq0 : goal.returns-then-expr-eq0
 returns-then-expr-eq0 c = known_none _ _ _ _ _ _ c.word.ensures c.if-word-eq0.false c.if-expr-eq0.true
 
 pub returns-then-word-eq0 : goal.returns-then-word-eq0
-returns-then-word-eq0 c = known_first _ _ _ _ _ _ _ c.word.ensures c.if-word-eq0.true c.name_span-span.ensures
+returns-then-word-eq0 c = known_first _ _ _ _ _ _ _ c.word.ensures c.if-word-eq0.true c.name_span.ensures
