@@ -10,6 +10,8 @@ use Rattle.records.specs.Records.{node_words, error_words}
 use Rattle.records.specs.NodeKind as node
 use Rattle.records.specs.NodeKind.{PartKind}
 use Rattle.records.specs.ErrorKind as error
+use Rattle.std.specs.Prelude.{Option, Some, None}
+use Rattle.records.specs.declared.kinds.ErrorKind.{ErrorKind}
 use Rattle.records.specs.declared.ErrorRecord.{ErrorRecord}
 use Rattle.tables.specs.Tables.{table_of, word_at, written}
 use Rattle.tables.proofs.Laws.{Wide, wide_map, table_append}
@@ -25,43 +27,53 @@ use Rattle.errors.specs.Code.{error_kind, error_of_node, count_after, table_afte
 
 -- ---- kinds
 
-pub kind_missing : {k : ℕ} → k ≡ node.number node.missing → error.number error.missing ≡ error_kind k
+-- a kind as the code has it
+abbrev coded : error.Kind → ErrorKind
+coded k = record { 0 = error.number k }
+
+pub kind_missing : {k : ℕ} → k ≡ node.number node.missing → Some (coded error.missing) ≡ error_kind k
 unfolding error_kind
 kind_missing e = rw e
 
-pub kind_incomplete : {k : ℕ} → k ≡ node.number node.noexpr → error.number error.incomplete ≡ error_kind k
+pub kind_incomplete : {k : ℕ} → k ≡ node.number node.noexpr → Some (coded error.incomplete) ≡ error_kind k
 unfolding error_kind
 kind_incomplete e = rw e
 
-pub kind_none : {k : ℕ} → ¬ (k ≡ node.number node.missing) → ¬ (k ≡ node.number node.noexpr) → 0 ≡ error_kind k
+pub kind_none : {k : ℕ} → ¬ (k ≡ node.number node.missing) → ¬ (k ≡ node.number node.noexpr) → None ≡ error_kind k
 unfolding error_kind
 kind_none {k} a b = rw (ne_eqb k 1 a, ne_eqb k 2 b)
 
 -- a part is no error
-part_none : (k : PartKind) → 0 ≡ error_kind (node.part_number k)
+part_none : (k : PartKind) → None ≡ error_kind (node.part_number k)
 part_none k = kind_none (λ e. omega (arith, e, part_number_law k)) (λ e. omega (arith, e, part_number_law k))
 
 -- ---- one function's answer
 
-pub kind_read : {k a b : ℕ} → k ≡ error_kind a → a ≡ b → k ≡ error_kind b
-kind_read e f = e ∙ ap error_kind f
+-- what the kind that was read gives
+pub kind_read : {r v : Option ErrorKind} {a b : ℕ} → r ≡ v → r ≡ error_kind a → a ≡ b → v ≡ error_kind b
+kind_read f e w = sym f ∙ e ∙ ap error_kind w
 
-pub count_same : {k k' : ℕ} (b : ℕ) → k ≡ k' → k ≡ 0 → b ≡ count_after k' b
-unfolding count_after
-count_same b e z = rw (sym e ∙ z)
+module _ {o : Option ErrorKind} (b : ℕ) where
+  -- no error
+  module _ (none : None ≡ o) where
+    pub count_same : b ≡ count_after o b
+    unfolding count_after
+    count_same = rw (← none)
 
-pub table_same : {k k' : ℕ} (nd : List ℕ) (n : ℕ) (rs : List ℕ) (b : ℕ) → k ≡ k' → k ≡ 0 → rs ≡ table_after k' nd n rs b
-unfolding table_after
-table_same nd n rs b e z = rw (sym e ∙ z)
+    pub table_same : (nd : List ℕ) (n : ℕ) (rs : List ℕ) → rs ≡ table_after o nd n rs b
+    unfolding table_after
+    table_same nd n rs = rw (← none)
 
-pub count_more : {k k' r : ℕ} (b : ℕ) → k ≡ k' → ¬ (k ≡ 0) → r ≡ next_number b → r ≡ count_after k' b
-unfolding count_after
-count_more {k' = k'} b e z h = h ∙ rw (ne_eqb k' 0 (λ q. z (e ∙ q)))
+  -- or one
+  module _ {k : ErrorKind} (some : Some k ≡ o) where
+    pub count_more : {r : ℕ} → r ≡ next_number b → r ≡ count_after o b
+    unfolding count_after
+    count_more h = rw (← some) h
 
-pub table_more : {k k' r : ℕ} (nd : List ℕ) (n : ℕ) (rs : List ℕ) (b : ℕ) (x : ErrorRecord) (ws rs' : List ℕ) → k ≡ k' → ¬ (k ≡ 0) → r ≡ next_number b → x ≡ error_of_node nd n k → ws ≡ error_words x → rs' ≡ written error_width rs r ws
-    → rs' ≡ table_after k' nd n rs b
-unfolding table_after
-table_more {k' = k'} nd n rs b x ws rs' e z er ex ew h = h ∙ rw (ew, ex, er, ne_eqb k' 0 (λ q. z (e ∙ q)), e)
+    pub table_more : (nd : List ℕ) (n : ℕ) (rs : List ℕ) {r : ℕ} {x : ErrorRecord} {ws rs' : List ℕ} → r ≡ next_number b → x ≡ error_of_node nd n k → ws ≡ error_words x → rs' ≡ written error_width rs r ws
+        → rs' ≡ table_after o nd n rs b
+    unfolding table_after
+    table_more nd n rs er ex ew h = rw (← some) (h ∙ rw (ew, ex, er))
 
 -- ---- the words of a node
 
@@ -117,44 +129,44 @@ abbrev pub Behind : (old : List ℕ) → List Error → (count : ℕ) → (error
 Behind old es b rs = (b ≡ length es) × (rs ≡ table_of error_width (error_rows es) old)
 
 -- one node more, whose words stand in the table
-add_one_node : (nd : List ℕ) (n : ℕ) (x : Node) (es : List Error) (old : List ℕ) → word_at node_width nd n 0 ≡ node.number x.kind → ((k : error.Kind) → error_of_node nd n (error.number k) ≡ error_record (node_error k x.head))
+add_one_node : (nd : List ℕ) (n : ℕ) (x : Node) (es : List Error) (old : List ℕ) → word_at node_width nd n 0 ≡ node.number x.kind → ((k : error.Kind) → error_of_node nd n (coded k) ≡ error_record (node_error k x.head))
     → length (es ++ errors_by x.kind x.head) ≤ record_limit → (b : ℕ) (rs : List ℕ) → Behind old es b rs
     → Behind old (es ++ errors_by x.kind x.head) (count_after (error_kind (word_at node_width nd n 0)) b) (table_after (error_kind (word_at node_width nd n 0)) nd n rs b)
 add_one_node nd n x es old ek ee room b rs h = subst (λ (w : ℕ). Behind old (es ++ errors_by x.kind x.head) (count_after (error_kind w) b) (table_after (error_kind w) nd n rs b)) (sym ek) (go x.kind room)
   where
     -- an error
-    wrong : (k : error.Kind) (w : ℕ) → error.number k ≡ error_kind w → ¬ (error.number k ≡ 0) → length (es ++ (node_error k x.head ∷ [])) ≤ record_limit
+    wrong : (k : error.Kind) (w : ℕ) → Some (coded k) ≡ error_kind w → length (es ++ (node_error k x.head ∷ [])) ≤ record_limit
         → Behind old (es ++ (node_error k x.head ∷ [])) (count_after (error_kind w) b) (table_after (error_kind w) nd n rs b)
-    wrong k w e z r =
+    wrong k w e r =
         let few : length es < record_limit = omega (arith, r, length-append es (node_error k x.head ∷ [])) in (
-          sym (count_more b e z refl) ∙ ap next_number h.0 ∙ sym (next_below few) ∙ sym (length-append es (node_error k x.head ∷ [])),
-          sym (table_more nd n rs b (error_of_node nd n (error.number k)) _ _ e z refl refl refl refl)
-              ∙ ap₂ (λ (t : List ℕ) (i : ℕ). written error_width t (next_number i) (error_words (error_of_node nd n (error.number k)))) h.1 h.0
+          sym (count_more b e refl) ∙ ap next_number h.0 ∙ sym (next_below few) ∙ sym (length-append es (node_error k x.head ∷ [])),
+          sym (table_more b e nd n rs refl refl refl refl)
+              ∙ ap₂ (λ (t : List ℕ) (i : ℕ). written error_width t (next_number i) (error_words (error_of_node nd n (coded k)))) h.1 h.0
               ∙ ap (λ (y : ErrorRecord). written error_width (table_of error_width (error_rows es) old) (next_number (length es)) (error_words y)) (ee k)
               ∙ append_one es (node_error k x.head) old few,
         )
 
     -- none
-    right : (w : ℕ) → 0 ≡ error_kind w → Behind old (es ++ []) (count_after (error_kind w) b) (table_after (error_kind w) nd n rs b)
+    right : (w : ℕ) → None ≡ error_kind w → Behind old (es ++ []) (count_after (error_kind w) b) (table_after (error_kind w) nd n rs b)
     right w e =
         subst (λ (fs : List Error). Behind old fs (count_after (error_kind w) b) (table_after (error_kind w) nd n rs b)) (sym (append-nil es))
-        (sym (count_same b e refl) ∙ h.0, sym (table_same nd n rs b e refl) ∙ h.1)
+        (sym (count_same b e) ∙ h.0, sym (table_same b e nd n rs) ∙ h.1)
 
     go : (k : node.Kind) → length (es ++ errors_by k x.head) ≤ record_limit
         → Behind old (es ++ errors_by k x.head) (count_after (error_kind (node.number k)) b) (table_after (error_kind (node.number k)) nd n rs b)
-    go node.missing r = wrong error.missing 1 (kind_missing refl) (λ q. omega arith) r
-    go node.noexpr r = wrong error.incomplete 2 (kind_incomplete refl) (λ q. omega arith) r
+    go node.missing r = wrong error.missing 1 (kind_missing refl) r
+    go node.noexpr r = wrong error.incomplete 2 (kind_incomplete refl) r
     go node.ref r = right 3 (kind_none (λ q. omega arith) (λ q. omega arith))
     go (node.part k) r = right (node.part_number k) (part_none k)
 
 -- ---- the loop
 
--- so many of the nodes xs are done: their errors stand behind those that there were
+-- the nodes of xs before number i are done: their errors stand behind those that there were
 pub record SoFar (old : List ℕ) (xs : List Node) (es : List Error) (i b : ℕ) (rs : List ℕ) : Type 0 where
   pub done : List Node
   pub rest : List Node
   pub whole : xs ≡ done ++ rest
-  pub size : length done ≡ i
+  pub size : suc (length done) ≡ i
   pub behind : Behind old (es ++ node_errors done) b rs
 
 -- the loop's invariant, for all nodes that the table may hold
@@ -163,7 +175,7 @@ Going nd c b₀ rs₀ i b rs =
     (xs : List Node) (es : List Error) (old : List ℕ) → HeldNodes nd c b₀ xs es → rs₀ ≡ table_of error_width (error_rows es) old → SoFar old xs es i b rs
 
 module _ (nd : List ℕ) (c b₀ : ℕ) (rs₀ : List ℕ) where
-  pub going_start : Going nd c b₀ rs₀ 0 b₀ rs₀
+  pub going_start : Going nd c b₀ rs₀ 1 b₀ rs₀
   unfolding Going node_errors
   going_start xs es old h e =
       record {
@@ -187,7 +199,7 @@ module _ (nd : List ℕ) (c b₀ : ℕ) (rs₀ : List ℕ) where
             ∙ ap (λ (ws : List ℕ). get_or ws j 0) r.1,
       )
 
-  pub going_more : (i b : ℕ) (rs : List ℕ) (r : ℕ) (rs' : List ℕ) → i < c → Going nd c b₀ rs₀ i b rs → r ≡ count_after (error_kind (word_at node_width nd (i + 1) 0)) b → rs' ≡ table_after (error_kind (word_at node_width nd (i + 1) 0)) nd (i + 1) rs b
+  pub going_more : (i b : ℕ) (rs : List ℕ) (r : ℕ) (rs' : List ℕ) → i ≤ c → Going nd c b₀ rs₀ i b rs → r ≡ count_after (error_kind (word_at node_width nd i 0)) b → rs' ≡ table_after (error_kind (word_at node_width nd i 0)) nd i rs b
       → Going nd c b₀ rs₀ (i + 1) r rs'
   unfolding Going
   going_more i b rs r rs' below g er et xs es old h e = go s.rest s.whole
@@ -199,9 +211,8 @@ module _ (nd : List ℕ) (c b₀ : ℕ) (rs₀ : List ℕ) where
       go [] w = absurd (omega (arith, below, h.counted, s.size, ap length (w ∙ append-nil s.done)))
       go (x ∷ rest) w =
           let done : List Node = s.done in
-          let n : i + 1 ≡ suc (length done) = omega (arith, s.size) in
           let v = node_word_law xs es h done rest x w in
-          let words : (j : ℕ) → word_at node_width nd (i + 1) j ≡ get_or (node_words (node_record x v.0)) j 0 = λ j. ap (λ (m : ℕ). word_at node_width nd m j) n ∙ v.1 j in
+          let words : (j : ℕ) → word_at node_width nd i j ≡ get_or (node_words (node_record x v.0)) j 0 = λ j. ap (λ (m : ℕ). word_at node_width nd m j) (sym s.size) ∙ v.1 j in
           let snoc : es ++ node_errors (done ++ (x ∷ [])) ≡ (es ++ node_errors done) ++ errors_by x.kind x.head =
           ap (λ (fs : List Error). es ++ fs) (errors_snoc done x) ∙ sym (append_assoc es (node_errors done) (errors_by x.kind x.head)) in
           let all : xs ≡ (done ++ (x ∷ [])) ++ rest = w ∙ sym (append_assoc done (x ∷ []) rest) in
@@ -214,16 +225,16 @@ module _ (nd : List ℕ) (c b₀ : ℕ) (rs₀ : List ℕ) where
             errors_front (done ++ (x ∷ [])) rest,
             ap (λ (ys : List Node). length (node_errors ys)) all,
           ) in
-          let one = add_one_node nd (i + 1) x (es ++ node_errors done) old (words 0) (λ k. rw (words 1, words 5, words 6)) room b rs s.behind in
+          let one = add_one_node nd i x (es ++ node_errors done) old (words 0) (λ k. rw (words 1, words 5, words 6)) room b rs s.behind in
           record {
             done = done ++ (x ∷ []);
             rest = rest;
             whole = all;
-            size = length-append done (x ∷ []) ∙ ap (λ (k : ℕ). k + 1) s.size;
+            size = omega (arith, s.size, length-append done (x ∷ []));
             behind = (er ∙ one.0 ∙ ap length (sym snoc), et ∙ one.1 ∙ ap (λ (fs : List Error). table_of error_width (error_rows fs) old) (sym snoc));
           }
 
-  pub going_all : (i b : ℕ) (rs : List ℕ) → c ≤ i → Going nd c b₀ rs₀ i b rs → Appends nd c b₀ b rs₀ rs
+  pub going_all : (i b : ℕ) (rs : List ℕ) → c < i → Going nd c b₀ rs₀ i b rs → Appends nd c b₀ b rs₀ rs
   unfolding Going Appends
   going_all i b rs end g xs es old h e = go s.rest s.whole
     where

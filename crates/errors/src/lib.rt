@@ -11,22 +11,22 @@ use records::kinds::{ErrorKind, NodeKind};
 use records::numbers::{ByteOffset, NodeNo};
 use records::{ErrorRecord, NodeRecord, Span};
 
-// The kind of the error that a node of this kind gives; 0 if it gives none.
-fn error_kind(kind: u32) -> u32
+// The kind of the error that a node of this kind gives, if it gives one.
+fn error_kind(kind: u32) -> Option<ErrorKind>
     ensures { result ≡ error_kind kind }
 {
     if kind == NodeKind::MISSING {
-        return ErrorKind::MISSING;
+        return Some(ErrorKind(ErrorKind::MISSING));
     }
     if kind == NodeKind::NO_EXPR {
-        return ErrorKind::INCOMPLETE;
+        return Some(ErrorKind(ErrorKind::INCOMPLETE));
     }
-    0
+    None
 }
 
 // An error of this kind at a node's start; its name is that node's span.
 fn error_at(nodes: &[u32], number: NodeNo, kind: ErrorKind) -> ErrorRecord
-    ensures { result ≡ error_of_node nodes.now number.0 kind.0 }
+    ensures { result ≡ error_of_node nodes.now number.0 kind }
 {
     let n = number.0;
     ErrorRecord {
@@ -44,12 +44,12 @@ fn add_error(nodes: &[u32], number: NodeNo, errors: &mut [u32], before: u32) -> 
     ensures count { result ≡ count_after (error_kind (word_at node_width nodes.now number.0 0)) before }
     ensures table { errors.new ≡ table_after (error_kind (word_at node_width nodes.now number.0 0)) nodes.now number.0 errors.old before }
 {
-    let kind = error_kind(tables::word(nodes, NodeRecord::WORDS, number.0, NodeRecord::KIND));
-    if kind == 0 {
+    let node_kind = tables::word(nodes, NodeRecord::WORDS, number.0, NodeRecord::KIND);
+    let Some(kind) = error_kind(node_kind) else {
         return before;
-    }
+    };
     let made = cursor::next_number(before);
-    let error = error_at(nodes, number, ErrorKind(kind));
+    let error = error_at(nodes, number, kind);
     let words = error.words();
     tables::write(errors, ErrorRecord::WORDS, made, &words);
     made
@@ -61,10 +61,8 @@ pub fn node_errors(nodes: &[u32], count: u32, errors: &mut [u32], before: u32) -
     ensures { Appends nodes.now count before result errors.old errors.new }
 {
     let mut made = before;
-    let mut i: u32 = 0;
-    while i < count {
-        i += 1;
-        made = add_error(nodes, NodeNo(i), errors, made);
+    for number in 1..=count {
+        made = add_error(nodes, NodeNo(number), errors, made);
     }
     made
 }
