@@ -1,38 +1,53 @@
--- The first root behind a name, step by step.
-use Prim.Native.Nat.{ℕ, suc, ◌+◌, ◌-◌, ◌≤◌, ◌<◌}
+-- The first root from a number on, step by step. Assumes nothing.
+use Prim.Native.Nat.{ℕ, suc, ◌+◌, ◌-◌, ◌≤◌, ◌<◌, min}
 use mathlib.Core.Bool.{Bool, true, false}
 use mathlib.Core.Path.{◌≡◌, refl, sym, ◌∙◌}
 use mathlib.Core.List.{List}
 use native.Mathlib.Omega.{arith}
+use native.Mathlib.Numerals.{add-one}
+use borrow.Author.Tests.{ltb-true, ltb-false}
+use lib.Dec.{ltb}
 use Rattle.records.specs.Limits.{record_limit}
 use Rattle.access.specs.Access.{is_root_at, root_from, next_root}
 
 module _ (names : List ℕ) (named : ℕ) (nodes : List ℕ) (made : ℕ) where
-  -- one name less is left
-  step : (fuel left k : ℕ) → fuel ≡ suc left → (b : Bool) → is_root_at names named nodes made k ≡ b
-      → (b ≡ true → root_from names named nodes made fuel k ≡ k) × (b ≡ false → root_from names named nodes made fuel k ≡ root_from names named nodes made left (suc k))
+  -- the first root from number k on
+  abbrev pub first_from : ℕ → ℕ
+  first_from k = root_from names named nodes made (suc record_limit - k) k
+
+  -- none is left,
+  pub first_none : {k : ℕ} → record_limit < k → first_from k ≡ 0
   unfolding root_from
-  step fuel left k e true t = (λ q. rw (e, t), λ q. absurd (let z : ◌≡◌ {A = ℕ} 0 1 = cc in omega arith))
-  step fuel left k e false t = (λ q. absurd (let z : ◌≡◌ {A = ℕ} 0 1 = cc in omega arith), λ q. rw (e, t))
+  first_none {k} h =
+      let e : suc record_limit - k ≡ 0 = omega arith in
+      rw e
 
-  abbrev next : ℕ → ℕ
-  next after = next_root names named nodes made after
+  module _ {k : ℕ} {b : Bool} (h : k ≤ record_limit) (e : b ≡ is_root_at names named nodes made k) where
+    one_less : suc record_limit - k ≡ suc (suc record_limit - (k + 1))
+    one_less = omega arith
 
-  -- the next name is a root,
-  pub next_here : (after k : ℕ) (b : Bool) → after < record_limit → k ≡ after + 1 → b ≡ is_root_at names named nodes made k → b ≡ true → next after ≡ k
-  unfolding next_root
-  next_here after k b l e t q =
-      let s : suc after ≡ k = omega arith in
-      rw s ((step (record_limit - after) (record_limit - suc after) k (omega arith) true (sym t ∙ q)).0 refl)
+    -- or number k is a root,
+    pub first_here : b ≡ true → first_from k ≡ k
+    unfolding root_from
+    first_here t = rw (one_less, sym e ∙ t)
 
-  -- or it is none,
-  pub next_later : (after k : ℕ) (b : Bool) → after < record_limit → k ≡ after + 1 → b ≡ is_root_at names named nodes made k → b ≡ false → next after ≡ next k
-  unfolding next_root
-  next_later after k b l e t q =
-      let s : suc after ≡ k = omega arith in
-      rw s ((step (record_limit - after) (record_limit - k) k (omega arith) false (sym t ∙ q)).1 refl)
+    -- or it is none
+    pub first_later : b ≡ false → first_from k ≡ first_from (k + 1)
+    unfolding root_from
+    first_later t = rw (one_less, sym e ∙ t, add-one k)
 
-  -- or none is left
-  pub next_none : (after : ℕ) → record_limit ≤ after → next after ≡ 0
+  -- behind a name is from the next number on, and none is behind the last
+  pub next_from : (after : ℕ) {k : ℕ} → k ≡ min (after + 1) 4294967295 → next_root names named nodes made after ≡ first_from k
   unfolding next_root root_from
-  next_none after l = let z : record_limit - after ≡ 0 = omega arith in rw z
+  next_from after {k} e = go (ltb after record_limit) refl
+    where
+      go : (b : Bool) → ltb after record_limit ≡ b → next_root names named nodes made after ≡ first_from k
+      go true t =
+          let l : after < record_limit = ltb-true after record_limit t in
+          let s : k ≡ suc after = omega arith in
+          let f : record_limit - after ≡ suc record_limit - suc after = omega arith in
+          rw (s, f)
+      go false t =
+          let l : record_limit ≤ after = ltb-false after record_limit t in
+          let z : record_limit - after ≡ 0 = omega arith in
+          rw z (sym (first_none (omega arith)))

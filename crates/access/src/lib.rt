@@ -13,8 +13,7 @@ use records::{NameRecord, NodeRecord, Span};
 pub fn span_part(size: usize, span: Span) -> Span
     ensures { result ≡ part_in size span }
 {
-    let from = span.start;
-    if from.0 as usize + span.len as usize <= size {
+    if span.start.0 as usize + span.len as usize <= size {
         span
     } else {
         records::no_span()
@@ -68,9 +67,7 @@ pub fn is_root(names: &[u32], named: u32, nodes: &[u32], made: u32, number: Name
 pub fn next_root(names: &[u32], named: u32, nodes: &[u32], made: u32, after: NameNo) -> NameNo
     ensures { result.0 ≡ next_root names.now named nodes.now made after.0 }
 {
-    let mut number = after.0;
-    while number < Limits::RECORDS {
-        number += 1;
+    for number in after.0.saturating_add(1)..=Limits::RECORDS {
         if is_root(names, named, nodes, made, NameNo(number)) {
             return NameNo(number);
         }

@@ -4,10 +4,10 @@ use borrow.Author.Tests.{le-leb, lt-leb}
 use Rattle.access.specs.Access.{part_in}
 use Rattle.access.proofs.span_part.Goals as goal
 
-pub returns-else-from-span : goal.returns-else-from-span
+pub returns-else-span-size : goal.returns-else-span-size
 unfolding part_in
-returns-else-from-span c = c.no_span.ensures ∙ rw (lt-leb _ _ c.if-from-span.false)
+returns-else-span-size c = c.no_span.ensures ∙ rw (lt-leb _ _ c.if-span-size.false)
 
-pub returns-then-from-span : goal.returns-then-from-span
+pub returns-then-span-size : goal.returns-then-span-size
 unfolding part_in
-returns-then-from-span c = rw (le-leb _ _ c.if-from-span.true)
+returns-then-span-size c = rw (le-leb _ _ c.if-span-size.true)
