@@ -5,7 +5,6 @@ use mathlib.Core.Path.{◌≡◌, refl, sym, ap, ap₂, ◌∙◌}
 use mathlib.Core.Logic.{◌⊎◌, inl, inr, ◌≢◌}
 use mathlib.Core.List.{List, [], ◌∷◌, ◌++◌, map}
 use native.Mathlib.Omega.{arith}
-use native.Mathlib.Numerals.{add-one}
 use lib.ListN.{length, get_or, set, take}
 use lib.Dec.{eqb, leb}
 use borrow.Author.Tests.{eq-eqb, ne_eqb, le-leb, leb-false}
@@ -95,7 +94,8 @@ module _ (xs : List Node) (few : length xs ≤ record_limit) (d : ℕ → ℕ) (
   unfolding bumped more_for
   bumped_in i a b small =
       let e : i ≡ i - 1 + 1 = omega arith in
-      let f : one_more (d i) ≡ d i + one_if (eqb i i) = rw (ne_eqb (d i) begun_word (λ q. omega arith), eq-eqb i i refl) (sym (add-one (d i))) in
+      let m : one_more (d i) ≡ d i + 1 = omega arith in
+      let f : one_more (d i) ≡ d i + one_if (eqb i i) = rw (m, eq-eqb i i refl) in
       rw (le-leb 1 i a, le-leb i (length xs) b)
       (ap (λ (x : NodeRecord). written node_width (table_of node_width (rows_with d 1 xs) old) i (node_words (with_parent x))) (node_is i a b)
       ∙ ap₂ (λ (n k : ℕ). written node_width (table_of node_width (rows_with d 1 xs) old) n (node_words (node_record (get_or xs (i - 1) no_node) k))) e f
@@ -159,29 +159,26 @@ take_all (x ∷ xs) = ap {B = List Node} (λ ys. x ∷ ys) (take_all xs)
 
 -- ---- the pass
 
--- after the first n nodes
+-- after the nodes before number n
 unfoldable pub Counting : (nd : List ℕ) (count : ℕ) (nd' : List ℕ) (n : ℕ) → Type 0
 Counting nd c nd' n =
     (xs : List Node) (old : List ℕ) → c ≡ length xs → c ≤ record_limit → nd ≡ table_of node_width (map node_words (node_records_from [] 1 xs)) old
-    → nd' ≡ table_of node_width (rows_with (in_degree (take n xs)) 1 xs) old
+    → nd' ≡ table_of node_width (rows_with (in_degree (take (n - 1) xs)) 1 xs) old
 
-pub counting_none : (nd : List ℕ) (c : ℕ) → Counting nd c nd 0
+pub counting_none : (nd : List ℕ) (c : ℕ) → Counting nd c nd 1
 unfolding Counting
 counting_none nd c xs old e f h = h ∙ ap (λ (rs : List (List ℕ)). table_of node_width rs old) (rows_are [] 1 xs)
 
-pub counting_more : (nd : List ℕ) (c : ℕ) (nd' : List ℕ) (n : ℕ) (nd₁ nd₂ : List ℕ) (l r : ℕ) → n < c → l ≡ word_at node_width nd' (n + 1) 3 → nd₁ ≡ bumped nd' c l → r ≡ word_at node_width nd₁ (n + 1) 4 → nd₂ ≡ bumped nd₁ c r
+pub counting_more : (nd : List ℕ) (c : ℕ) (nd' : List ℕ) (n : ℕ) (nd₁ nd₂ : List ℕ) (l r : ℕ) → 1 ≤ n → n ≤ c → l ≡ word_at node_width nd' n 3 → nd₁ ≡ bumped nd' c l → r ≡ word_at node_width nd₁ n 4 → nd₂ ≡ bumped nd₁ c r
     → Counting nd c nd' n → Counting nd c nd₂ (n + 1)
 unfolding Counting
-counting_more nd c nd' n nd₁ nd₂ l r k hl h1 hr h2 v xs old e f h = two
+counting_more nd c nd' n nd₁ nd₂ l r p k hl h1 hr h2 v xs old e f h = two
   where
     d : ℕ → ℕ
-    d = in_degree (take n xs)
+    d = in_degree (take (n - 1) xs)
 
     x : Node
-    x = get_or xs n no_node
-
-    z : n + 1 - 1 ≡ n
-    z = omega arith
+    x = get_or xs (n - 1) no_node
 
     few : length xs ≤ record_limit
     few = omega arith
@@ -190,30 +187,33 @@ counting_more nd c nd' n nd₁ nd₂ l r k hl h1 hr h2 v xs old e f h = two
     before = v xs old e f h
 
     small : (m : ℕ) → d m < begun_word
-    small m = omega (arith, degree_le (take n xs) m, take_few xs n, few)
+    small m = omega (arith, degree_le (take (n - 1) xs) m, take_few xs (n - 1), few)
 
     left : l ≡ x.left
-    left = hl ∙ ap (λ (t : List ℕ). word_at node_width t (n + 1) 3) before ∙ left_is xs few d old (n + 1) (omega arith) (omega arith) ∙ ap (λ (i : ℕ). (get_or xs i no_node).left) z
+    left = hl ∙ ap (λ (t : List ℕ). word_at node_width t n 3) before ∙ left_is xs few d old n p (omega arith)
 
     one : nd₁ ≡ table_of node_width (rows_with (more_for d x.left) 1 xs) old
     one = h1 ∙ ap₂ (λ (t : List ℕ) (i : ℕ). bumped t i l) before e ∙ ap (bumped (table_of node_width (rows_with d 1 xs) old) (length xs)) left ∙ bumped_is xs few d old x.left small
 
     right : r ≡ x.right
-    right = hr ∙ ap (λ (t : List ℕ). word_at node_width t (n + 1) 4) one ∙ right_is xs few (more_for d x.left) old (n + 1) (omega arith) (omega arith) ∙ ap (λ (i : ℕ). (get_or xs i no_node).right) z
+    right = hr ∙ ap (λ (t : List ℕ). word_at node_width t n 4) one ∙ right_is xs few (more_for d x.left) old n p (omega arith)
 
     small₁ : (m : ℕ) → more_for d x.left m < begun_word
-    small₁ m = unfold more_for in omega (arith, degree_le (take n xs) m, take_few xs n, few, one_le (eqb x.left m))
+    small₁ m = unfold more_for in omega (arith, degree_le (take (n - 1) xs) m, take_few xs (n - 1), few, one_le (eqb x.left m))
 
-    degrees : (m : ℕ) → 1 ≤ m → m < 1 + length xs → more_for (more_for d x.left) x.right m ≡ in_degree (take (n + 1) xs) m
+    behind : n + 1 - 1 ≡ suc (n - 1)
+    behind = omega arith
+
+    degrees : (m : ℕ) → 1 ≤ m → m < 1 + length xs → more_for (more_for d x.left) x.right m ≡ in_degree (take (n + 1 - 1) xs) m
     degrees m a b =
-        unfold more_for in (sym (degree_snoc (take n xs) x m) ∙ ap (λ (ys : List Node). in_degree ys m) (sym (take_snoc xs n (omega arith)) ∙ ap (λ (i : ℕ). take i xs) (sym (add-one n))))
+        unfold more_for in (sym (degree_snoc (take (n - 1) xs) x m) ∙ ap (λ (ys : List Node). in_degree ys m) (sym (take_snoc xs (n - 1) (omega arith)) ∙ ap (λ (i : ℕ). take i xs) (sym behind)))
 
-    two : nd₂ ≡ table_of node_width (rows_with (in_degree (take (n + 1) xs)) 1 xs) old
+    two : nd₂ ≡ table_of node_width (rows_with (in_degree (take (n + 1 - 1) xs)) 1 xs) old
     two = h2 ∙ ap₂ (λ (t : List ℕ) (i : ℕ). bumped t i r) one e ∙ ap (bumped (table_of node_width (rows_with (more_for d x.left) 1 xs) old) (length xs)) right
         ∙ bumped_is xs few (more_for d x.left) old x.right small₁
-        ∙ ap (λ (rs : List (List ℕ)). table_of node_width rs old) (with_same (more_for (more_for d x.left) x.right) (in_degree (take (n + 1) xs)) 1 xs degrees)
+        ∙ ap (λ (rs : List (List ℕ)). table_of node_width rs old) (with_same (more_for (more_for d x.left) x.right) (in_degree (take (n + 1 - 1) xs)) 1 xs degrees)
 
-pub counting_all : (nd : List ℕ) (c : ℕ) (nd' : List ℕ) (n : ℕ) → n ≡ c → Counting nd c nd' n → Counts nd c nd'
+pub counting_all : (nd : List ℕ) (c : ℕ) (nd' : List ℕ) (n : ℕ) → n - 1 ≡ c → Counting nd c nd' n → Counts nd c nd'
 unfolding Counting Counts node_records
 counting_all nd c nd' n k v xs old e f h =
     v xs old e f h ∙ ap (λ (ys : List Node). table_of node_width (rows_with (in_degree ys) 1 xs) old) (ap (λ (i : ℕ). take i xs) (k ∙ e) ∙ take_all xs)

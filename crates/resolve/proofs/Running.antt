@@ -1,15 +1,12 @@
 -- All the turns of a name, the visit of a name, and all names. Assumes nothing.
-use Prim.Native.Nat.{ℕ, zero, suc, ◌+◌, ◌*◌, ◌≤◌, ◌<◌}
-use mathlib.Core.Bool.{Bool, true, false, ◌&&◌}
+use Prim.Native.Nat.{ℕ, zero, suc, ◌+◌, ◌-◌, ◌*◌, ◌≤◌, ◌<◌}
+use mathlib.Core.Bool.{Bool, true, false}
 use mathlib.Core.Path.{◌≡◌, refl, sym, ap, ap₂, subst, ◌∙◌}
 use mathlib.Core.List.{List, [], ◌∷◌}
 use native.Mathlib.Omega.{arith}
-use native.Mathlib.Numerals.{add-one}
 use lib.ListN.{length}
-use lib.Dec.{ltb}
-use borrow.Author.Tests.{ne_eqb, lt-ltb, ltb-true}
+use borrow.Author.Tests.{ne_eqb}
 use Rattle.records.specs.Limits.{record_limit, name_width}
-use Rattle.records.proofs.Choices.{and_left, and_right}
 use Rattle.tables.specs.Tables.{word_at}
 use Rattle.walk.specs.Walk.{Tree, none, part, refer, Status, fresh, begun, finished, State, Walked, mark, walk, ready, whole, whole_if, visit, names_to, unwalked}
 use Rattle.walk.proofs.Basics.{ready_true, ready_intro}
@@ -91,23 +88,17 @@ pub going_none : (source es : List ℕ) (count : ℕ) (g : Walker) (nm nd wk : L
 unfolding Going
 going_none source es count g nm nd wk w c r f l = record { at· = c; reads = r; fits = f; means = refl; left = omega arith }
 
-pub going_more : (source es : List ℕ) (count : ℕ) (g : Walker) (nm nd wk : List ℕ) (h : Walker) (nm' nd' wk' : List ℕ) (turns : ℕ) (q : Walker) (nm₂ nd₂ wk₂ : List ℕ) (b : Bool)
-    → b ≡ is_running h.up h.waiting → ltb turns turn_limit && b ≡ true → (is_running h.up h.waiting ≡ true → Turns source es count h nm' nd' wk' q nm₂ nd₂ wk₂)
+pub going_more : (source es : List ℕ) (count : ℕ) (g : Walker) (nm nd wk : List ℕ) (h : Walker) (nm' nd' wk' : List ℕ) (turns : ℕ) (q : Walker) (nm₂ nd₂ wk₂ : List ℕ)
+    → is_running h.up h.waiting ≡ true → Turns source es count h nm' nd' wk' q nm₂ nd₂ wk₂
     → Going source es count g nm nd wk h nm' nd' wk' turns → Going source es count g nm nd wk q nm₂ nd₂ wk₂ (turns + 1)
 unfolding Going
-going_more source es count g nm nd wk h nm' nd' wk' turns q nm₂ nd₂ wk₂ b e t s v w c r f l =
-    let u : is_running h.up h.waiting ≡ true = sym e ∙ and_right (ltb turns turn_limit) b t in
-    along_more w c h q nm' nd' wk' nm₂ nd₂ wk₂ turns (v w c r f l) u (s u)
+going_more source es count g nm nd wk h nm' nd' wk' turns q nm₂ nd₂ wk₂ u t v w c r f l = along_more w c h q nm' nd' wk' nm₂ nd₂ wk₂ turns (v w c r f l) u t
 
-pub going_ends : (source es : List ℕ) (count : ℕ) (g : Walker) (nm nd wk : List ℕ) (h : Walker) (nm' nd' wk' : List ℕ) (turns : ℕ) (b : Bool)
-    → b ≡ is_running h.up h.waiting → ltb turns turn_limit && b ≡ false
+pub going_ends : (source es : List ℕ) (count : ℕ) (g : Walker) (nm nd wk : List ℕ) (h : Walker) (nm' nd' wk' : List ℕ) (turns : ℕ)
+    → (turns < turn_limit → is_running h.up h.waiting ≡ true → ⊥)
     → Going source es count g nm nd wk h nm' nd' wk' turns → Runs source es count g nm nd wk h nm' nd' wk'
 unfolding Going Runs
-going_ends source es count g nm nd wk h nm' nd' wk' turns b e t v w c r f l =
-    along_ends w c h nm' nd' wk' turns (v w c r f l) (λ p u. no_way (rw (lt-ltb turns turn_limit p) (e ∙ u)) t)
-
-pub less : (turns : ℕ) (b : Bool) → ltb turns turn_limit && b ≡ true → turns < turn_limit
-less turns b t = ltb-true turns turn_limit (and_left (ltb turns turn_limit) b t)
+going_ends source es count g nm nd wk h nm' nd' wk' turns stop v w c r f l = along_ends w c h nm' nd' wk' turns (v w c r f l) stop
 
 -- ---- how many turns there are
 
@@ -215,31 +206,33 @@ visit_yes source es count n made nm nd wk nm₁ nm₂ nd₂ wk₂ nm₃ v e g h 
 
 -- ---- all names
 
--- after the names 1 to n, with room for the others
+-- after the names before number n, with room for the others
 unfoldable pub Past : (source es : List ℕ) (count n : ℕ) (nm nd wk : List ℕ) (made : ℕ) (nm' nd' wk' : List ℕ) → Type 0
 Past source es count n nm nd wk c' nm' nd' wk' =
     (w : Given source es count) → Holds w 0 0 nm nd wk (unwalked (trees w) (total w)) [] → fresh_size (trees w) (total w) (unwalked (trees w) (total w)) ≤ record_limit
-    → Holds w c' 0 nm' nd' wk' (names_to (trees w) (total w) n (unwalked (trees w) (total w))) []
-    × (length (names_to (trees w) (total w) n (unwalked (trees w) (total w))).nodes + fresh_size (trees w) (total w) (names_to (trees w) (total w) n (unwalked (trees w) (total w))) ≤ record_limit)
+    → Holds w c' 0 nm' nd' wk' (names_to (trees w) (total w) (n - 1) (unwalked (trees w) (total w))) []
+    × (length (names_to (trees w) (total w) (n - 1) (unwalked (trees w) (total w))).nodes + fresh_size (trees w) (total w) (names_to (trees w) (total w) (n - 1) (unwalked (trees w) (total w))) ≤ record_limit)
 
-pub past_none : (source es : List ℕ) (count : ℕ) (nm nd wk : List ℕ) → Past source es count 0 nm nd wk 0 nm nd wk
+pub past_none : (source es : List ℕ) (count : ℕ) (nm nd wk : List ℕ) → Past source es count 1 nm nd wk 0 nm nd wk
 unfolding Past names_to
 past_none source es count nm nd wk w h f = (h, omega (arith, f))
 
-pub past_more : (source es : List ℕ) (count n : ℕ) (nm nd wk : List ℕ) (c : ℕ) (nm₁ nd₁ wk₁ : List ℕ) (c₂ : ℕ) (nm₂ nd₂ wk₂ : List ℕ) → n < count → Past source es count n nm nd wk c nm₁ nd₁ wk₁
-    → Visits source es count (n + 1) c nm₁ nd₁ wk₁ c₂ nm₂ nd₂ wk₂ → Past source es count (n + 1) nm nd wk c₂ nm₂ nd₂ wk₂
+pub past_more : (source es : List ℕ) (count n : ℕ) (nm nd wk : List ℕ) (c : ℕ) (nm₁ nd₁ wk₁ : List ℕ) (c₂ : ℕ) (nm₂ nd₂ wk₂ : List ℕ) → 1 ≤ n → n ≤ count → Past source es count n nm nd wk c nm₁ nd₁ wk₁
+    → Visits source es count n c nm₁ nd₁ wk₁ c₂ nm₂ nd₂ wk₂ → Past source es count (n + 1) nm nd wk c₂ nm₂ nd₂ wk₂
 unfolding Past Visits
-past_more source es count n nm nd wk c nm₁ nd₁ wk₁ c₂ nm₂ nd₂ wk₂ l p v w h f =
-    let s : State = names_to (trees w) (total w) n (unwalked (trees w) (total w)) in
+past_more source es count n nm nd wk c nm₁ nd₁ wk₁ c₂ nm₂ nd₂ wk₂ b l p v w h f =
+    let s : State = names_to (trees w) (total w) (n - 1) (unwalked (trees w) (total w)) in
     let q = p w h f in
-    let one : names_to (trees w) (total w) (n + 1) (unwalked (trees w) (total w)) ≡ visit (trees w) (total w) (n + 1) s =
-    ap (λ (i : ℕ). names_to (trees w) (total w) i (unwalked (trees w) (total w))) (add-one n) ∙ next w ∙ ap (λ (i : ℕ). visit (trees w) (total w) i s) (sym (add-one n)) in
-    rw one (v w s (omega arith) (omega arith) q.0 q.1, omega (arith, q.1, visit_room (trees w) (total w) (n + 1) s))
+    let i : n + 1 - 1 ≡ suc (n - 1) = omega arith in
+    let j : suc (n - 1) ≡ n = omega arith in
+    let one : names_to (trees w) (total w) (n + 1 - 1) (unwalked (trees w) (total w)) ≡ visit (trees w) (total w) n s =
+    ap (λ (i : ℕ). names_to (trees w) (total w) i (unwalked (trees w) (total w))) i ∙ next w ∙ ap (λ (i : ℕ). visit (trees w) (total w) i s) j in
+    rw one (v w s b l q.0 q.1, omega (arith, q.1, visit_room (trees w) (total w) n s))
   where
-    next : (w : Given source es count) → names_to (trees w) (total w) (suc n) (unwalked (trees w) (total w)) ≡ visit (trees w) (total w) (suc n) (names_to (trees w) (total w) n (unwalked (trees w) (total w)))
+    next : (w : Given source es count) → names_to (trees w) (total w) (suc (n - 1)) (unwalked (trees w) (total w)) ≡ visit (trees w) (total w) (suc (n - 1)) (names_to (trees w) (total w) (n - 1) (unwalked (trees w) (total w)))
     next w = unfold names_to in refl
 
-pub past_all : (source es : List ℕ) (count n : ℕ) (nm nd wk : List ℕ) (c : ℕ) (nm₁ nd₁ wk₁ : List ℕ) → n ≡ count → Past source es count n nm nd wk c nm₁ nd₁ wk₁ → VisitsTo source es count count nm nd wk c nm₁ nd₁ wk₁
+pub past_all : (source es : List ℕ) (count n : ℕ) (nm nd wk : List ℕ) (c : ℕ) (nm₁ nd₁ wk₁ : List ℕ) → n - 1 ≡ count → Past source es count n nm nd wk c nm₁ nd₁ wk₁ → VisitsTo source es count count nm nd wk c nm₁ nd₁ wk₁
 unfolding Past VisitsTo
 past_all source es count n nm nd wk c nm₁ nd₁ wk₁ e p w h f =
     let q = p w h f in

@@ -1,5 +1,5 @@
 -- What single functions of the walk read and make, for any words.
-use Rattle.std.specs.Prelude.{ℕ, suc, ◌-◌, ◌≤◌, Bool, true, false, ◌&&◌, not, ◌≡◌, List, [], ◌∷◌, map, length, eqb, if◌then◌else◌}
+use Rattle.std.specs.Prelude.{ℕ, ◌+◌, ◌-◌, min, ◌≤◌, Bool, true, false, ◌&&◌, not, ◌≡◌, List, [], ◌∷◌, map, length, eqb, if◌then◌else◌}
 use Rattle.records.specs.Base.{within}
 use Rattle.records.specs.Limits.{record_limit, expr_width, name_width, node_width, work_width}
 use Rattle.records.specs.NodeKind as node
@@ -55,7 +55,7 @@ up_walker i d c =
 
 -- the item once its right child is made, and the walk that turns to its left child then
 abbrev pub left_item : StackItem → Walker → StackItem
-left_item i g = record { expr = i.expr; name = i.name; waits = for_left; right = g.node }
+left_item i g = record i { waits = for_left; right = g.node }
 
 abbrev pub left_walker : (exprs : List ℕ) → StackItem → Walker → Walker
 left_walker es i g = down_walker (word_at expr_width es i.expr.0 2) 0 g.waiting g.made
@@ -129,7 +129,7 @@ names_with nm n v =
 
 -- one more, as far as a word goes
 abbrev pub one_more : ℕ → ℕ
-one_more d = if eqb d begun_word then d else suc d
+one_more d = min (d + 1) 4294967295
 
 -- the record of a node, by its words
 abbrev pub node_at : (nodes : List ℕ) → (n : ℕ) → NodeRecord
@@ -145,16 +145,7 @@ node_at nd n =
     }
 
 abbrev pub with_parent : NodeRecord → NodeRecord
-with_parent x =
-    record {
-      kind = x.kind;
-      start = x.start;
-      name = x.name;
-      left = x.left;
-      right = x.right;
-      span = x.span;
-      in_degree = one_more x.in_degree;
-    }
+with_parent x = record x { in_degree = one_more x.in_degree }
 
 -- the node i has one parent more, if it is one of so many
 unfoldable pub bumped : (nodes : List ℕ) → (count i : ℕ) → List ℕ

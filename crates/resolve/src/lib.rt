@@ -6,7 +6,7 @@ ghost use Rattle.records.specs.Limits.{record_limit, name_width, node_width, wor
 ghost use Rattle.records.specs.NodeKind as node;
 ghost use Rattle.tables.specs.Tables.{word_at, written, span_at};
 ghost use Rattle.grammar.specs.Tree.{Line};
-ghost use Rattle.resolve.specs.Words.{item_words, item_at, left_item, down_walker, up_walker, left_walker, done_walker, used_in, kind_in, span_in, place_in, nodes_with, finished_node, reference_kind, fresh_name, names_with, begun_word, one_more, node_at, with_parent, bumped, Counts};
+ghost use Rattle.resolve.specs.Words.{item_words, item_at, left_item, down_walker, up_walker, left_walker, done_walker, used_in, kind_in, span_in, place_in, nodes_with, finished_node, reference_kind, fresh_name, names_with, begun_word, node_at, with_parent, bumped, Counts};
 ghost use Rattle.resolve.specs.Turns.{Turns, Runs, Visits, VisitsTo, is_running};
 ghost use Rattle.resolve.specs.Resolved.{HeldNames, Resolved};
 
@@ -73,13 +73,6 @@ pub struct Walker {
 // The turns that a walk has at most: a node takes less than five.
 pub const TURNS: u32 = 8192;
 
-// The number of the record before record `number`.
-fn before(number: u32) -> u32
-    ensures { result ≡ number - 1 }
-{
-    if number == 0 { 0 } else { number - 1 }
-}
-
 // The item of a number, from the stack.
 fn item_at(work: &[u32], number: WorkNo) -> StackItem
     ensures { result ≡ item_at work.now number.0 }
@@ -124,11 +117,10 @@ fn used_name(source: &[u8], exprs: &[u32], names: &[u32], count: u32, expr: Expr
 fn node_kind(exprs: &[u32], expr: ExprNo) -> NodeKind
     ensures { result.0 ≡ kind_in exprs.now expr.0 }
 {
-    let e = expr.0;
-    if e == 0 {
+    if expr.0 == 0 {
         return NodeKind(NodeKind::NO_EXPR);
     }
-    NodeKind(tables::word(exprs, ExprRecord::WORDS, e, ExprRecord::KIND))
+    NodeKind(tables::word(exprs, ExprRecord::WORDS, expr.0, ExprRecord::KIND))
 }
 
 // The span of an expression's node: the expression's, or the name's if that has none.
@@ -145,12 +137,10 @@ fn node_span(exprs: &[u32], names: &[u32], expr: ExprNo, name: NameNo) -> Span
 fn node_place(exprs: &[u32], names: &[u32], expr: ExprNo, name: NameNo) -> ByteOffset
     ensures { result.0 ≡ place_in exprs.now names.now expr.0 name.0 }
 {
-    let e = expr.0;
-    let n = name.0;
-    if n == 0 {
-        return ByteOffset(tables::word(exprs, ExprRecord::WORDS, e, ExprRecord::START));
+    if name.0 == 0 {
+        return ByteOffset(tables::word(exprs, ExprRecord::WORDS, expr.0, ExprRecord::START));
     }
-    ByteOffset(tables::word(names, NameRecord::WORDS, n, NameRecord::START))
+    ByteOffset(tables::word(names, NameRecord::WORDS, name.0, NameRecord::START))
 }
 
 // Makes the node of an item, whose right child is made, behind the nodes that are made.
@@ -165,18 +155,13 @@ fn make_node(
 )
     ensures { nodes.new ≡ nodes_with exprs.now names.now nodes.old made kind.0 item.expr.0 item.name.0 left.0 item.right.0 }
 {
-    let expr = item.expr;
-    let name = item.name;
-    let right = item.right;
-    let start = node_place(exprs, names, expr, name);
-    let span = node_span(exprs, names, expr, name);
     let record = NodeRecord {
         kind,
-        start,
-        name,
+        start: node_place(exprs, names, item.expr, item.name),
+        name: item.name,
         left,
-        right,
-        span,
+        right: item.right,
+        span: node_span(exprs, names, item.expr, item.name),
         in_degree: 0,
     };
     let words = record.words();
@@ -187,16 +172,13 @@ fn make_node(
 fn set_node(names: &mut [u32], name: NameNo, node: NodeNo)
     ensures { names.new ≡ names_with names.old name.0 node.0 }
 {
-    let n = name.0;
-    let span = symbols::name_span(names, name);
-    let expr = tables::word(names, NameRecord::WORDS, n, NameRecord::EXPR);
     let record = NameRecord {
-        span,
-        expr: ExprNo(expr),
+        span: symbols::name_span(names, name),
+        expr: ExprNo(tables::word(names, NameRecord::WORDS, name.0, NameRecord::EXPR)),
         node,
     };
     let words = record.words();
-    tables::write(names, NameRecord::WORDS, n, &words);
+    tables::write(names, NameRecord::WORDS, name.0, &words);
 }
 
 // The node that a reference gets as its child, by its name's status; 0 if the name is not finished.
@@ -274,15 +256,13 @@ fn refer(
     ensures { g.up ≡ false → word_at expr_width exprs.now g.expr.0 0 ≡ node.number node.ref
         → Turns source.now exprs.now count g names.old nodes.old work.old result names.new nodes.new work.new }
 {
-    let expr = g.expr;
-    let name = g.name;
     let item = StackItem {
-        expr,
-        name,
+        expr: g.expr,
+        name: g.name,
         waits: StackItem::FOR_NAME,
         right: NodeNo(0),
     };
-    let used = used_name(source, exprs, names, count, expr);
+    let used = used_name(source, exprs, names, count, g.expr);
     let status = tables::word(names, NameRecord::WORDS, used.0, NameRecord::NODE);
     if is_fresh(used.0, status) {
         let number = cursor::next_number(g.waiting);
@@ -302,17 +282,13 @@ fn turn_left(exprs: &[u32], work: &mut [u32], item: StackItem, g: Walker) -> Wal
     ensures walk { result ≡ left_walker exprs.now item g }
     ensures stack { work.new ≡ written work_width work.old g.waiting (item_words (left_item item g)) }
 {
-    let expr = item.expr;
-    let name = item.name;
-    let right = g.node;
     let next = StackItem {
-        expr,
-        name,
         waits: StackItem::FOR_LEFT,
-        right,
+        right: g.node,
+        ..item
     };
     push(work, WorkNo(g.waiting), next);
-    let left = tables::word(exprs, ExprRecord::WORDS, expr.0, ExprRecord::LEFT);
+    let left = tables::word(exprs, ExprRecord::WORDS, item.expr.0, ExprRecord::LEFT);
     going_down(ExprNo(left), NameNo(0), g.waiting, g.made)
 }
 
@@ -321,7 +297,7 @@ fn one_done(g: Walker) -> Walker
     ensures { result ≡ done_walker g }
 {
     let number = cursor::next_number(g.made);
-    coming_up(NodeNo(number), before(g.waiting), number)
+    coming_up(NodeNo(number), g.waiting.saturating_sub(1), number)
 }
 
 // A turn that comes up to an item: the left child is next, or the item's node is made, once its name is finished if it uses one.
@@ -338,20 +314,18 @@ fn come_up(
         → Turns source.now exprs.now count g names.old nodes.old work.old result names.new nodes.new work.new }
 {
     let item = item_at(work, WorkNo(g.waiting));
-    let expr = item.expr;
-    let node = g.node;
     if item.waits == StackItem::FOR_RIGHT {
         return turn_left(exprs, work, item, g);
     }
     if item.waits == StackItem::FOR_LEFT {
-        let kind = node_kind(exprs, expr);
-        make_node(exprs, names, nodes, g.made, kind, item, node);
+        let kind = node_kind(exprs, item.expr);
+        make_node(exprs, names, nodes, g.made, kind, item, g.node);
         return one_done(g);
     }
-    let used = used_name(source, exprs, names, count, expr);
-    set_node(names, used, node);
+    let used = used_name(source, exprs, names, count, item.expr);
+    set_node(names, used, g.node);
     let kind = NodeKind(NodeKind::REFERENCE);
-    make_node(exprs, names, nodes, g.made, kind, item, node);
+    make_node(exprs, names, nodes, g.made, kind, item, g.node);
     one_done(g)
 }
 
@@ -379,24 +353,22 @@ fn turn(
     if g.up {
         return come_up(source, exprs, names, count, nodes, work, g);
     }
-    let expr = g.expr;
-    let name = g.name;
-    if (expr.0 == 0) & (name.0 == 0) {
+    if (g.expr.0 == 0) & (g.name.0 == 0) {
         return coming_up(NodeNo(0), g.waiting, g.made);
     }
-    let kind = tables::word(exprs, ExprRecord::WORDS, expr.0, ExprRecord::KIND);
+    let kind = tables::word(exprs, ExprRecord::WORDS, g.expr.0, ExprRecord::KIND);
     if kind == NodeKind::REFERENCE {
         return refer(source, exprs, names, count, nodes, work, g);
     }
     let number = cursor::next_number(g.waiting);
     let item = StackItem {
-        expr,
-        name,
+        expr: g.expr,
+        name: g.name,
         waits: StackItem::FOR_RIGHT,
         right: NodeNo(0),
     };
     push(work, WorkNo(number), item);
-    let right = tables::word(exprs, ExprRecord::WORDS, expr.0, ExprRecord::RIGHT);
+    let right = tables::word(exprs, ExprRecord::WORDS, g.expr.0, ExprRecord::RIGHT);
     going_down(ExprNo(right), NameNo(0), number, g.made)
 }
 
@@ -413,10 +385,11 @@ fn run(
     ensures { Runs source.now exprs.now count g names.old nodes.old work.old result names.new nodes.new work.new }
 {
     let mut h = g;
-    let mut turns: u32 = 0;
-    while (turns < TURNS) & is_running(h.up, h.waiting) {
+    for _ in 0..TURNS {
+        if !is_running(h.up, h.waiting) {
+            break;
+        }
         h = turn(source, exprs, names, count, nodes, work, h);
-        turns += 1;
     }
     h
 }
@@ -439,8 +412,7 @@ fn visit(
         let first = begin_name(names, NameNo(n));
         let g = going_down(first, NameNo(n), 0, made);
         let h = run(source, exprs, names, count, nodes, work, g);
-        let node = h.node;
-        set_node(names, NameNo(n), node);
+        set_node(names, NameNo(n), h.node);
         return h.made;
     }
     made
@@ -457,20 +429,11 @@ fn walk_names(
 ) -> u32
     ensures { VisitsTo source.now exprs.now count count names.old nodes.old work.old result names.new nodes.new work.new }
 {
-    let mut n: u32 = 0;
-    let mut made: u32 = 0;
-    while n < count {
-        n += 1;
-        made = visit(source, exprs, names, count, nodes, work, n, made);
+    let mut made = 0;
+    for number in 1..=count {
+        made = visit(source, exprs, names, count, nodes, work, number, made);
     }
     made
-}
-
-// One more, as far as a word goes.
-fn one_more(d: u32) -> u32
-    ensures { result ≡ one_more d }
-{
-    if d == u32::MAX { d } else { d + 1 }
 }
 
 // The record of a node.
@@ -491,24 +454,13 @@ fn node_at(nodes: &[u32], n: u32) -> NodeRecord
     }
 }
 
-// The record with one parent more.
+// The record with one parent more, as far as a word goes.
 fn with_parent(node: NodeRecord) -> NodeRecord
     ensures { result ≡ with_parent node }
 {
-    let kind = node.kind;
-    let start = node.start;
-    let name = node.name;
-    let left = node.left;
-    let right = node.right;
-    let span = node.span;
     NodeRecord {
-        kind,
-        start,
-        name,
-        left,
-        right,
-        span,
-        in_degree: one_more(node.in_degree),
+        in_degree: node.in_degree.saturating_add(1),
+        ..node
     }
 }
 
@@ -527,12 +479,10 @@ fn add_parent(nodes: &mut [u32], count: u32, i: u32)
 fn count_parents(nodes: &mut [u32], count: u32)
     ensures { Counts nodes.old count nodes.new }
 {
-    let mut n: u32 = 0;
-    while n < count {
-        n += 1;
-        let left = tables::word(nodes, NodeRecord::WORDS, n, NodeRecord::LEFT);
+    for number in 1..=count {
+        let left = tables::word(nodes, NodeRecord::WORDS, number, NodeRecord::LEFT);
         add_parent(nodes, count, left);
-        let right = tables::word(nodes, NodeRecord::WORDS, n, NodeRecord::RIGHT);
+        let right = tables::word(nodes, NodeRecord::WORDS, number, NodeRecord::RIGHT);
         add_parent(nodes, count, right);
     }
 }

@@ -1,14 +1,20 @@
 -- `resolve::count_parents` meets its contract: the loop goes on as `Counting` says. Assumes nothing.
-use mathlib.Core.Path.{refl, ◌∙◌}
 use native.Mathlib.Omega.{arith}
 use Rattle.resolve.proofs.Parents.{counting_none, counting_more, counting_all}
 use Rattle.resolve.proofs.count_parents.Goals as goal
 
-pub loop-n-init : goal.loop-n-init
-loop-n-init c = (counting_none _ _, omega arith, refl)
+pub loop-number-init : goal.loop-number-init
+loop-number-init c = (counting_none _ _, omega arith)
 
-pub loop-n-preserved : goal.loop-n-preserved
-loop-n-preserved c = let v = c.loop-n.invariant in (counting_more _ _ _ _ _ _ _ _ c.loop-n-test.true c.word-left.ensures c.add_parent.ensures c.word-right.ensures c.add_parent-in-loop-n.ensures v.0, omega (arith, c.loop-n-test.true), c.add_parent-in-loop-n.auto.nodes ∙ c.add_parent.auto.nodes ∙ v.2)
+pub loop-number-preserved : goal.loop-number-preserved
+loop-number-preserved c =
+    (counting_more _ _ _ _ _ _ _ _ c.loop-number.auto.number c.loop-number-test.true c.word-left.ensures c.add_parent.ensures c.word-right.ensures c.add_parent-in-loop-number.ensures c.loop-number.invariant.0, omega arith)
 
+-- there are no nodes
 pub returns : goal.returns
-returns c = let l = c.loop-n in counting_all _ _ _ _ (omega (arith, l.invariant.1, c.loop-n-test.false)) l.invariant.0
+returns c = counting_all _ _ _ _ (omega arith) c.loop-number.invariant.0
+
+-- the last node's children are counted
+pub returns-2 : goal.returns-2
+returns-2 c = counting_all _ _ _ _ (omega arith)
+    (counting_more _ _ _ _ _ _ _ _ c.loop-number.auto.number c.loop-number-test.true c.word-left.ensures c.add_parent.ensures c.word-right.ensures c.add_parent-in-loop-number.ensures c.loop-number.invariant.0)

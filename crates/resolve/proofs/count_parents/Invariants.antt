@@ -1,12 +1,7 @@
 -- `resolve::count_parents` meets its contract: the loop goes on as `Counting` says. Assumes nothing.
-use Prim.Native.Nat.{◌-◌, ◌≤◌}
-use lib.ListN.{length}
-use mathlib.Core.Path.{◌≡◌}
+use Prim.Native.Nat.{◌+◌, ◌≤◌}
 use Rattle.resolve.proofs.Parents.{Counting}
 use Rattle.resolve.proofs.count_parents.Given as goal
 
-abbrev pub invariant-loop-n : goal.invariant-loop-n
-invariant-loop-n l = Counting l.initial.nodes l.count l.nodes l.n × (l.n ≤ l.count) × (length l.nodes ≡ length l.initial.nodes)
-
-abbrev pub decreases-loop-n : goal.decreases-loop-n
-decreases-loop-n l = l.count - l.n
+abbrev pub invariant-loop-number : goal.invariant-loop-number
+invariant-loop-number l = Counting l.initial.nodes l.count l.nodes l.number × (l.number ≤ l.count + 1)

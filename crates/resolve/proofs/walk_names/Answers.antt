@@ -1,14 +1,18 @@
 -- `resolve::walk_names` meets its contract: the loop goes on as `Past` says. Assumes nothing.
-use mathlib.Core.Path.{refl, ◌∙◌}
 use native.Mathlib.Omega.{arith}
 use Rattle.resolve.proofs.Running.{past_none, past_more, past_all}
 use Rattle.resolve.proofs.walk_names.Goals as goal
 
-pub loop-n-init : goal.loop-n-init
-loop-n-init c = (past_none _ _ _ _ _ _, omega arith, refl, refl, refl)
+pub loop-number-init : goal.loop-number-init
+loop-number-init c = (past_none _ _ _ _ _ _, omega arith)
 
-pub loop-n-preserved : goal.loop-n-preserved
-loop-n-preserved c = let v = c.loop-n.invariant in (past_more _ _ _ _ _ _ _ _ _ _ _ _ _ _ _ c.loop-n-test.true v.0 c.visit-made.ensures, omega (arith, c.loop-n-test.true), c.visit-made.auto.names ∙ v.2, c.visit-made.auto.nodes ∙ v.3, c.visit-made.auto.work ∙ v.4)
+pub loop-number-preserved : goal.loop-number-preserved
+loop-number-preserved c = (past_more _ _ _ _ _ _ _ _ _ _ _ _ _ _ _ c.loop-number.auto.number c.loop-number-test.true c.loop-number.invariant.0 c.visit-made.ensures, omega arith)
 
+-- there are no names
 pub returns : goal.returns
-returns c = let l = c.loop-n in past_all _ _ _ _ _ _ _ _ _ _ _ (omega (arith, l.invariant.1, c.loop-n-test.false)) l.invariant.0
+returns c = past_all _ _ _ _ _ _ _ _ _ _ _ (omega arith) c.loop-number.invariant.0
+
+-- the last name was visited
+pub returns-2 : goal.returns-2
+returns-2 c = past_all _ _ _ _ _ _ _ _ _ _ _ (omega arith) (past_more _ _ _ _ _ _ _ _ _ _ _ _ _ _ _ c.loop-number.auto.number c.loop-number-test.true c.loop-number.invariant.0 c.visit-made.ensures)
