@@ -44,16 +44,7 @@ pub(crate) fn judge(one: Tally, sheet: bool) -> Tally
     requires { (one.texts ≤ 1) × (one.places < 2 ^ 32) × (one.bad ≤ 1) }
     ensures { (result.texts ≤ 1) × (result.places < 2 ^ 32) × (result.bad ≤ 1) }
 {
-    let texts = one.texts;
-    let places = one.places;
-    let bad = if sheet { one.bad } else { 1 };
-    Tally { texts, places, bad }
-}
-
-fn one_if(holds: bool) -> u64
-    ensures { result ≤ 1 }
-{
-    if holds { 1 } else { 0 }
+    if sheet { one } else { Tally { bad: 1, ..one } }
 }
 
 // Whether the text check gives the stored row of refusal 3, and none where another answer is stored.
@@ -81,13 +72,10 @@ const TOKEN_TABLE: usize = Limits::RECORDS as usize * TokenRecord::WORDS as usiz
 fn words_agree(tokens: &[u32], bytes: &[u8], words: usize) -> bool
     requires { words < 2 ^ 40 }
 {
-    let mut agree = true;
-    let mut i: usize = 0;
-    while i < tokens.len() {
-        agree = agree & (tokens[i] == stored::token_word(bytes, i, words));
-        i += 1;
-    }
-    agree
+    tokens
+        .iter()
+        .enumerate()
+        .all(|(i, word)| *word == stored::token_word(bytes, i, words))
 }
 
 // Whether the lexer gives the stored row of refusals 2 to 5, or lexes the source, into the stored tokens where they are
@@ -104,11 +92,9 @@ fn tokens_agree(source: &[u8], bytes: &[u8], a: Stored) -> bool
     if a.no != Refusal::NONE {
         return row.no == Refusal::NONE;
     }
-    let count = answer.count() as usize;
-    let stored = a.tokens;
     (row.no == Refusal::NONE)
-        & (count == stored)
-        & words_agree(&tokens, bytes, TokenRecord::WORDS as usize * stored)
+        & (answer.count() as usize == a.tokens)
+        & words_agree(&tokens, bytes, TokenRecord::WORDS as usize * a.tokens)
 }
 
 // How many places of tokens agree.
@@ -116,14 +102,9 @@ fn places_agree(source: &[u8], bytes: &[u8], a: Stored) -> u64
     requires { (a.tokens < 2 ^ 32) × (a.places < 2 ^ 40) }
     ensures { result ≤ a.tokens }
 {
-    let tokens = a.tokens;
-    let mut agree: u64 = 0;
-    let mut i: usize = 0;
-    while i < tokens {
-        agree = agree + one_if(place_agrees(source, bytes, a, i));
-        i += 1;
-    }
-    agree
+    (0..a.tokens)
+        .filter(|i| place_agrees(source, bytes, a, *i))
+        .count() as u64
 }
 
 // Compares a case.
@@ -140,8 +121,8 @@ pub(crate) fn compare(source: &[u8], bytes: &[u8]) -> Tally
         & (!with_text | text_agrees(source, a))
         & tokens_agree(source, bytes, a);
     Tally {
-        texts: one_if(with_text),
+        texts: u64::from(with_text),
         places: agree,
-        bad: one_if(!good),
+        bad: u64::from(!good),
     }
 }
