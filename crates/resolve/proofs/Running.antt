@@ -1,7 +1,7 @@
 -- All the turns of a name, the visit of a name, and all names. Assumes nothing.
 use Prim.Native.Nat.{ℕ, zero, suc, ◌+◌, ◌-◌, ◌*◌, ◌≤◌, ◌<◌}
 use mathlib.Core.Bool.{Bool, true, false}
-use mathlib.Core.Path.{◌≡◌, refl, sym, ap, ap₂, subst, ◌∙◌}
+use mathlib.Core.Path.{◌≡◌, refl, sym, ap, subst, ◌∙◌}
 use mathlib.Core.List.{List, [], ◌∷◌}
 use native.Mathlib.Omega.{arith}
 use lib.ListN.{length}
@@ -13,9 +13,11 @@ use Rattle.walk.proofs.Basics.{ready_true, ready_intro}
 use Rattle.walk.proofs.Fuel.{sum_begin, visit_unroll}
 use Rattle.walk.proofs.Count.{visit_room, walk_room, walk_number}
 use Rattle.walk.proofs.Machine.{step_meaning, step_load, step_fit, step_falls}
+use Rattle.resolve.specs.declared.Step.{Step}
+use Rattle.resolve.specs.declared.Step.TheVariants.{Down, Up}
 use Rattle.resolve.specs.declared.Walker.{Walker}
-use Rattle.resolve.specs.Words.{down_walker, status_word, names_with, begun_word, fresh_name}
-use Rattle.resolve.specs.Turns.{Given, total, trees, StandsFor, Holds, Reads, Fits, Turns, is_running, turn_limit, Runs, Visits, VisitsTo}
+use Rattle.resolve.specs.Words.{down_walker, step_node, last_node, status_word, names_with, begun_word, fresh_name}
+use Rattle.resolve.specs.Turns.{Given, total, trees, StandsFor, Holds, Goes, Comes, Reads, Fits, Turns, goes_on, is_running, turn_limit, Runs, Visits, VisitsTo}
 use Rattle.resolve.proofs.Holds.{status_is, expr_is, word_fresh, holds_mark}
 use Rattle.resolve.proofs.Turning.{no_way, fresh_both, fresh_intro, not_finished}
 use Rattle.resolve.proofs.Bridge.{tree_stands}
@@ -42,14 +44,32 @@ module _ {source es : List ℕ} {count : ℕ} (w : Given source es count) where
     pub means : meaning (trees w) (total w) at· ≡ meaning (trees w) (total w) c
     pub left : steps_left (trees w) (total w) at· + turns ≤ turn_limit
 
-  is_going : (h : Walker) (nm nd wk : List ℕ) (c : Config) → Reads w h nm nd wk c → is_running h.up h.waiting ≡ true → Running (trees w) (total w) c
+  -- a walk that comes up stands still where no item waits,
+  comes_still : (g : Step) (i : ℕ) {d : ℕ} → Comes w g i → d ≡ 0 → goes_on g d ≡ true → ⊥
+  comes_still (Down e n) i c z q = c
+  comes_still (Up x) i c z q = no_way q (rw z)
+
+  -- else it goes on, as a walk that goes down does
+  comes_on : (g : Step) {d n : ℕ} → d ≡ suc n → goes_on g d ≡ true
+  comes_on (Down e n) h = refl
+  comes_on (Up x) {n = n} h = rw (h, ne_eqb (suc n) 0 (λ q. omega arith))
+
+  down_on : (g : Step) (t : Tree) (d : ℕ) → Goes w g t → goes_on g d ≡ true
+  down_on (Down e n) t d h = refl
+  down_on (Up x) t d h = absurd h
+
+  -- the node that it comes up with
+  comes_node : (g : Step) {i : ℕ} → Comes w g i → step_node g ≡ i
+  comes_node (Down e n) c = absurd c
+  comes_node (Up x) c = c
+
+  is_going : (h : Walker) (nm nd wk : List ℕ) (c : Config) → Reads w h nm nd wk c → is_running h ≡ true → Running (trees w) (total w) c
   unfolding Reads Running
   is_going h nm nd wk (down t s ks) r q = tt
-  is_going h nm nd wk (up x []) r q =
-      absurd (no_way q (ap₂ (λ (b : Bool) (n : ℕ). is_running b n) r.0 r.2.waiting))
+  is_going h nm nd wk (up x []) r q = absurd (comes_still h.step x.number r.0 r.1.waiting q)
   is_going h nm nd wk (up x (k ∷ ks)) r q = tt
 
-  along_more : (c : Config) (h q : Walker) (nm nd wk nm' nd' wk' : List ℕ) (turns : ℕ) → Along c h nm nd wk turns → is_running h.up h.waiting ≡ true
+  along_more : (c : Config) (h q : Walker) (nm nd wk nm' nd' wk' : List ℕ) (turns : ℕ) → Along c h nm nd wk turns → is_running h ≡ true
       → Turns source es count h nm nd wk q nm' nd' wk' → Along c q nm' nd' wk' (turns + 1)
   along_more c h q nm nd wk nm' nd' wk' turns a r t =
       record {
@@ -61,23 +81,18 @@ module _ {source es : List ℕ} {count : ℕ} (w : Given source es count) where
       }
 
   -- it stands still only at the end
-  along_ends : (c : Config) (h : Walker) (nm nd wk : List ℕ) (turns : ℕ) → Along c h nm nd wk turns → (turns < turn_limit → is_running h.up h.waiting ≡ true → ⊥)
+  along_ends : (c : Config) (h : Walker) (nm nd wk : List ℕ) (turns : ℕ) → Along c h nm nd wk turns → (turns < turn_limit → is_running h ≡ true → ⊥)
       → Reads w h nm nd wk (up (meaning (trees w) (total w) c) [])
   along_ends c h nm nd wk turns a stop = go a.at· a.reads a.means a.left
     where
       go : (d : Config) → Reads w h nm nd wk d → meaning (trees w) (total w) d ≡ meaning (trees w) (total w) c → steps_left (trees w) (total w) d + turns ≤ turn_limit
           → Reads w h nm nd wk (up (meaning (trees w) (total w) c) [])
       go (down t s ks) r m l =
-          absurd (stop (omega (arith, l, step_falls (trees w) (total w) (down t s ks) (unfold Running in tt))) (still (unfold Reads in r.0)))
-        where
-          still : h.up ≡ false → is_running h.up h.waiting ≡ true
-          still u = rw u
+          absurd (stop (omega (arith, l, step_falls (trees w) (total w) (down t s ks) (unfold Running in tt))) (down_on h.step t h.waiting (unfold Reads in r.0)))
       go (up x []) r m l = let e : x ≡ meaning (trees w) (total w) c = unfold meaning resume in m in subst (λ (y : Walked). Reads w h nm nd wk (up y [])) e r
       go (up x (k ∷ ks)) r m l =
-          absurd (stop (omega (arith, l, step_falls (trees w) (total w) (up x (k ∷ ks)) (unfold Running in tt))) (still (unfold Reads in r.0) (unfold Reads in r.2.waiting)))
-        where
-          still : h.up ≡ true → h.waiting ≡ suc (length ks) → is_running h.up h.waiting ≡ true
-          still u v = rw (u, v, ne_eqb (suc (length ks)) 0 (λ q. omega arith))
+          let some : h.waiting ≡ suc (length ks) = unfold Reads in r.1.waiting in
+          absurd (stop (omega (arith, l, step_falls (trees w) (total w) (up x (k ∷ ks)) (unfold Running in tt))) (comes_on h.step some))
 
 -- after so many turns, whatever configuration the first words stand for
 unfoldable pub Going : (source es : List ℕ) (count : ℕ) → Walker → (nm nd wk : List ℕ) → Walker → (nm nd wk : List ℕ) → (turns : ℕ) → Type 0
@@ -89,13 +104,13 @@ unfolding Going
 going_none source es count g nm nd wk w c r f l = record { at· = c; reads = r; fits = f; means = refl; left = omega arith }
 
 pub going_more : (source es : List ℕ) (count : ℕ) (g : Walker) (nm nd wk : List ℕ) (h : Walker) (nm' nd' wk' : List ℕ) (turns : ℕ) (q : Walker) (nm₂ nd₂ wk₂ : List ℕ)
-    → is_running h.up h.waiting ≡ true → Turns source es count h nm' nd' wk' q nm₂ nd₂ wk₂
+    → is_running h ≡ true → Turns source es count h nm' nd' wk' q nm₂ nd₂ wk₂
     → Going source es count g nm nd wk h nm' nd' wk' turns → Going source es count g nm nd wk q nm₂ nd₂ wk₂ (turns + 1)
 unfolding Going
 going_more source es count g nm nd wk h nm' nd' wk' turns q nm₂ nd₂ wk₂ u t v w c r f l = along_more w c h q nm' nd' wk' nm₂ nd₂ wk₂ turns (v w c r f l) u t
 
 pub going_ends : (source es : List ℕ) (count : ℕ) (g : Walker) (nm nd wk : List ℕ) (h : Walker) (nm' nd' wk' : List ℕ) (turns : ℕ)
-    → (turns < turn_limit → is_running h.up h.waiting ≡ true → ⊥)
+    → (turns < turn_limit → is_running h ≡ true → ⊥)
     → Going source es count g nm nd wk h nm' nd' wk' turns → Runs source es count g nm nd wk h nm' nd' wk'
 unfolding Going Runs
 going_ends source es count g nm nd wk h nm' nd' wk' turns stop v w c r f l = along_ends w c h nm' nd' wk' turns (v w c r f l) stop
@@ -141,11 +156,11 @@ visit_no source es count n made nm nd wk v hv fr w s a b h f =
         let d = ready_true (trees w) (total w) n s e in
         absurd (no_way (fresh_intro n v a (hv ∙ status_is w h n d.0.1 ∙ ap status_word d.1)) fr)
 
-pub visit_yes : (source es : List ℕ) (count n made : ℕ) (nm nd wk nm₁ nm₂ nd₂ wk₂ nm₃ : List ℕ) (v e : ℕ) (g h : Walker) → v ≡ word_at name_width nm n 3 → fresh_name n v ≡ true → e ≡ word_at name_width (names_with nm n begun_word) n 2 → nm₁ ≡ names_with nm n begun_word
+pub visit_yes : (source es : List ℕ) (count n made : ℕ) (nm nd wk nm₁ nm₂ nd₂ wk₂ nm₃ : List ℕ) (v e m : ℕ) (g h : Walker) → v ≡ word_at name_width nm n 3 → fresh_name n v ≡ true → e ≡ word_at name_width (names_with nm n begun_word) n 2 → nm₁ ≡ names_with nm n begun_word
     → g ≡ down_walker e n 0 made → Runs source es count g nm₁ nd wk h nm₂ nd₂ wk₂
-    → nm₃ ≡ names_with nm₂ n h.node.0 → Visits source es count n made nm nd wk h.made nm₃ nd₂ wk₂
+    → m ≡ last_node h → nm₃ ≡ names_with nm₂ n m → Visits source es count n made nm nd wk h.made nm₃ nd₂ wk₂
 unfolding Visits Runs
-visit_yes source es count n made nm nd wk nm₁ nm₂ nd₂ wk₂ nm₃ v e g h hv fr he h1 hg rn h3 w s a b hd f =
+visit_yes source es count n made nm nd wk nm₁ nm₂ nd₂ wk₂ nm₃ v e m g h hv fr he h1 hg rn hm h3 w s a b hd f =
     subst (λ (t : State). Holds w h.made 0 nm₃ nd₂ wk₂ t []) (sym (visit_unroll F N n s ∙ ap (λ (t : Bool). whole_if F N t (visit F N) n s) is_ready ∙ whole_is)) marked₃
   where
     F : ℕ → Tree
@@ -173,7 +188,7 @@ visit_yes source es count n made nm nd wk nm₁ nm₂ nd₂ wk₂ nm₃ v e g h 
     sums = sum_begin (λ m. size (F m)) N n s.status legal.0 legal.1 n_fresh
 
     starts : Reads w g nm₁ nd wk c
-    starts = unfold Reads in rw hg (refl, subst (λ (i : ℕ). StandsFor w i n (F n)) (sym (he ∙ ap (λ (t : List ℕ). word_at name_width t n 2) (sym h1) ∙ expr_is w marked₁ n legal.0 legal.1)) (tree_stands w n legal.0 legal.1), marked₁)
+    starts = unfold Reads in rw hg (subst (λ (i : ℕ). StandsFor w i n (F n)) (sym (he ∙ ap (λ (t : List ℕ). word_at name_width t n 2) (sym h1) ∙ expr_is w marked₁ n legal.0 legal.1)) (tree_stands w n legal.0 legal.1), marked₁)
 
     fits : Fits w c
     fits = unfold load Fit NamesLegal frames_size in (omega (arith, sums, f), (tt, λ z. absurd (some_tree w n legal z)))
@@ -187,11 +202,11 @@ visit_yes source es count n made nm nd wk nm₁ nm₂ nd₂ wk₂ nm₃ v e g h 
     ended : Reads w h nm₂ nd₂ wk₂ (up x [])
     ended = let y : meaning F N c ≡ x = unfold meaning resume in refl in subst (λ (y : Walked). Reads w h nm₂ nd₂ wk₂ (up y [])) y (rn w c starts fits turns)
 
-    node_is : h.node.0 ≡ x.number
-    node_is = unfold Reads in ended.1
+    node_is : m ≡ x.number
+    node_is = hm ∙ unfold Reads in comes_node w h.step ended.0
 
     holds₂ : Holds w h.made 0 nm₂ nd₂ wk₂ x.state []
-    holds₂ = unfold Reads in (subst (λ (d : ℕ). Holds w h.made d nm₂ nd₂ wk₂ x.state []) ended.2.waiting ended.2)
+    holds₂ = unfold Reads in (subst (λ (d : ℕ). Holds w h.made d nm₂ nd₂ wk₂ x.state []) ended.1.waiting ended.1)
 
     low : (1 ≤ x.number) × (x.number ≤ record_limit)
     low =
@@ -199,7 +214,7 @@ visit_yes source es count n made nm nd wk nm₁ nm₂ nd₂ wk₂ nm₃ v e g h 
         (num.0, omega (arith, num.1, walk_room F N (F n) (mark n begun s), sums, f))
 
     marked₃ : Holds w h.made 0 nm₃ nd₂ wk₂ (mark n (finished x.number) x.state) []
-    marked₃ = holds_mark w holds₂ n (finished x.number) nm₃ h.node.0 legal.0 legal.1 (λ j z. let y : x.number ≡ j = cc in (omega (arith, low), omega (arith, low))) node_is h3
+    marked₃ = holds_mark w holds₂ n (finished x.number) nm₃ m legal.0 legal.1 (λ j z. let y : x.number ≡ j = cc in (omega (arith, low), omega (arith, low))) node_is h3
 
     whole_is : whole_if F N true (visit F N) n s ≡ mark n (finished x.number) x.state
     whole_is = unfold whole_if whole in refl

@@ -1,5 +1,5 @@
 -- What the words of the walk stand for: a configuration of the machine of walk/specs/Machine.antt.
-use Rattle.std.specs.Prelude.{ℕ, suc, ◌+◌, ◌*◌, ◌-◌, ◌≤◌, Bool, true, false, ◌||◌, not, ◌≡◌, ◌≢◌, List, [], ◌∷◌, map, length, get_or, eqb, if◌then◌else◌}
+use Rattle.std.specs.Prelude.{ℕ, suc, ◌+◌, ◌*◌, ◌-◌, ◌≤◌, Bool, true, not, ◌≡◌, ◌≢◌, List, [], ◌∷◌, map, length, get_or, eqb, if◌then◌else◌}
 use Rattle.records.specs.Limits.{record_limit, expr_width, name_width, node_width, work_width}
 use Rattle.records.specs.NodeKind as node
 use Rattle.records.specs.Records.{name_words, node_words}
@@ -15,6 +15,8 @@ use Rattle.walk.specs.Walk.{NodeHead, Own, noexpr, of, own_kind, Tree, none, par
 use Rattle.walk.specs.Trees.{head, tree_of}
 use Rattle.walk.specs.Nodes.{node_record}
 use Rattle.resolve.specs.Words.{kind_in, status_word, for_right, for_left, for_name}
+use Rattle.resolve.specs.declared.Step.{Step}
+use Rattle.resolve.specs.declared.Step.TheVariants.{Down, Up}
 use Rattle.resolve.specs.declared.Walker.{Walker}
 use Rattle.walk.specs.Machine.{fresh_size, Frame, wait_right, wait_left, wait_name, Config, down, up, step, meaning, steps_left, load, Fit}
 
@@ -103,9 +105,20 @@ module _ {source exprs : List ℕ} {count : ℕ} (w : Given source exprs count) 
     pub room : record_limit * work_width ≤ length wk
     pub beyond : beyond work_width wk ≡ beyond work_width w.work
 
+  -- the walk's next step is down into this tree,
+  abbrev pub Goes : Step → Tree → Type 0
+  Goes (Down e n) t = StandsFor e.0 n.0 t
+  Goes (Up x) t = ⊥
+
+  -- or up with this node
+  abbrev pub Comes : Step → (node : ℕ) → Type 0
+  Comes (Down e n) i = ⊥
+  Comes (Up x) i = x.0 ≡ i
+
+  -- the walker and the tables stand for this configuration
   unfoldable pub Reads : Walker → (nm nd wk : List ℕ) → Config → Type 0
-  Reads g nm nd wk (down t s ks) = (g.up ≡ false) × StandsFor g.expr.0 g.name.0 t × Holds g.made g.waiting nm nd wk s ks
-  Reads g nm nd wk (up x ks) = (g.up ≡ true) × (g.node.0 ≡ x.number) × Holds g.made g.waiting nm nd wk x.state ks
+  Reads g nm nd wk (down t s ks) = Goes g.step t × Holds g.made g.waiting nm nd wk s ks
+  Reads g nm nd wk (up x ks) = Comes g.step x.number × Holds g.made g.waiting nm nd wk x.state ks
 
   -- there is room for what is still to come
   abbrev pub Fits : Config → Type 0
@@ -120,8 +133,12 @@ Turns source es count g nm nd wk q nm' nd' wk' =
     (w : Given source es count) (c : Config) → Reads w g nm nd wk c → Fits w c → Reads w q nm' nd' wk' (Next w c)
 
 -- whether there is a turn left
-abbrev pub is_running : (up : Bool) → (waiting : ℕ) → Bool
-is_running b n = not b || not (eqb n 0)
+abbrev pub goes_on : Step → (waiting : ℕ) → Bool
+goes_on (Down e n) d = true
+goes_on (Up x) d = not (eqb d 0)
+
+abbrev pub is_running : Walker → Bool
+is_running g = goes_on g.step g.waiting
 
 -- the turns that there are at most: each node takes less than five
 abbrev pub turn_limit : ℕ

@@ -1,5 +1,5 @@
 -- What single functions of the walk read and make, for any words.
-use Rattle.std.specs.Prelude.{ℕ, ◌+◌, ◌-◌, min, ◌≤◌, Bool, true, false, ◌&&◌, not, ◌≡◌, List, [], ◌∷◌, map, length, eqb, if◌then◌else◌}
+use Rattle.std.specs.Prelude.{ℕ, ◌+◌, ◌-◌, min, ◌≤◌, Bool, ◌&&◌, not, ◌≡◌, List, [], ◌∷◌, map, length, eqb, if◌then◌else◌}
 use Rattle.records.specs.Base.{within}
 use Rattle.records.specs.Limits.{record_limit, expr_width, name_width, node_width, work_width}
 use Rattle.records.specs.NodeKind as node
@@ -14,7 +14,10 @@ use Rattle.symbols.specs.Texts.{texts_from}
 use Rattle.walk.specs.Walk.{Node, Status, fresh, begun, finished}
 use Rattle.walk.specs.Nodes.{node_records_from, node_rows}
 use Rattle.resolve.specs.declared.StackItem.{StackItem}
+use Rattle.resolve.specs.declared.Step.{Step}
+use Rattle.resolve.specs.declared.Step.TheVariants.{Down, Up}
 use Rattle.resolve.specs.declared.Walker.{Walker}
+use Rattle.records.specs.declared.numbers.NodeNo.{NodeNo}
 
 -- ---- stack items
 
@@ -45,17 +48,23 @@ for_name = 3
 
 -- going down into the expression e, which is the outermost one of the name n if that is not 0
 abbrev pub down_walker : (e n waiting made : ℕ) → Walker
-down_walker e n d c =
-    record { up = false; expr = record { 0 = e }; name = record { 0 = n }; node = record { 0 = 0 }; waiting = d; made = c }
+down_walker e n d c = record { step = Down (record { 0 = e }) (record { 0 = n }); waiting = d; made = c }
 
 -- coming up with the node i
 abbrev pub up_walker : (i waiting made : ℕ) → Walker
-up_walker i d c =
-    record { up = true; expr = record { 0 = 0 }; name = record { 0 = 0 }; node = record { 0 = i }; waiting = d; made = c }
+up_walker i d c = record { step = Up (record { 0 = i }); waiting = d; made = c }
+
+-- the node that a walk comes up with; 0 if it goes down
+abbrev pub step_node : Step → ℕ
+step_node (Down e n) = 0
+step_node (Up x) = x.0
+
+abbrev pub last_node : Walker → ℕ
+last_node g = step_node g.step
 
 -- the item once its right child is made, and the walk that turns to its left child then
-abbrev pub left_item : StackItem → Walker → StackItem
-left_item i g = record i { waits = for_left; right = g.node }
+abbrev pub left_item : StackItem → (right : NodeNo) → StackItem
+left_item i x = record i { waits = for_left; right = x }
 
 abbrev pub left_walker : (exprs : List ℕ) → StackItem → Walker → Walker
 left_walker es i g = down_walker (word_at expr_width es i.expr.0 2) 0 g.waiting g.made

@@ -1,12 +1,12 @@
 // Resolves names: the Rust's `parse_inner`, step 2, with an explicit stack in the lent work table. Each function takes any words.
 #![tactic(auto)]
 
-ghost use Rattle.std.specs.Prelude.{◌≡◌, true, false, List, ◌*◌, ◌-◌, ◌≤◌, length};
+ghost use Rattle.std.specs.Prelude.{◌≡◌, true, List, ◌*◌, ◌-◌, ◌≤◌, length};
 ghost use Rattle.records.specs.Limits.{record_limit, name_width, node_width, work_width, expr_width};
 ghost use Rattle.records.specs.NodeKind as node;
 ghost use Rattle.tables.specs.Tables.{word_at, written, span_at};
 ghost use Rattle.grammar.specs.Tree.{Line};
-ghost use Rattle.resolve.specs.Words.{item_words, item_at, left_item, down_walker, up_walker, left_walker, done_walker, used_in, kind_in, span_in, place_in, nodes_with, finished_node, reference_kind, fresh_name, names_with, begun_word, node_at, with_parent, bumped, Counts};
+ghost use Rattle.resolve.specs.Words.{item_words, item_at, left_item, down_walker, up_walker, left_walker, done_walker, last_node, used_in, kind_in, span_in, place_in, nodes_with, finished_node, reference_kind, fresh_name, names_with, begun_word, node_at, with_parent, bumped, Counts};
 ghost use Rattle.resolve.specs.Turns.{Turns, Runs, Visits, VisitsTo, is_running};
 ghost use Rattle.resolve.specs.Resolved.{HeldNames, Resolved};
 
@@ -58,14 +58,18 @@ impl Status {
     pub const BEGUN: u32 = 4294967295;
 }
 
-// Where the walk stands: going down into an expression, which is the outermost one of the name if that is not 0, or coming up
-// with the node that was made last. So many items wait, and so many nodes are made.
+// The next step of a walk: down into an expression, which is the outermost one of the name if that is not 0, or up with the node
+// that was made last.
+#[derive(Clone, Copy)]
+pub enum Step {
+    Down(ExprNo, NameNo),
+    Up(NodeNo),
+}
+
+// Where the walk stands: its next step, how many items wait, and how many nodes are made.
 #[derive(Clone, Copy)]
 pub struct Walker {
-    pub up: bool,
-    pub expr: ExprNo,
-    pub name: NameNo,
-    pub node: NodeNo,
+    pub step: Step,
     pub waiting: u32,
     pub made: u32,
 }
@@ -220,10 +224,7 @@ fn going_down(expr: ExprNo, name: NameNo, waiting: u32, made: u32) -> Walker
     ensures { result ≡ down_walker expr.0 name.0 waiting made }
 {
     Walker {
-        up: false,
-        expr,
-        name,
-        node: NodeNo(0),
+        step: Step::Down(expr, name),
         waiting,
         made,
     }
@@ -234,10 +235,7 @@ fn coming_up(node: NodeNo, waiting: u32, made: u32) -> Walker
     ensures { result ≡ up_walker node.0 waiting made }
 {
     Walker {
-        up: true,
-        expr: ExprNo(0),
-        name: NameNo(0),
-        node,
+        step: Step::Up(node),
         waiting,
         made,
     }
@@ -251,18 +249,20 @@ fn refer(
     count: u32,
     nodes: &mut [u32],
     work: &mut [u32],
+    expr: ExprNo,
+    name: NameNo,
     g: Walker,
 ) -> Walker
-    ensures { g.up ≡ false → word_at expr_width exprs.now g.expr.0 0 ≡ node.number node.ref
+    ensures { g.step ≡ Step.Down expr name → word_at expr_width exprs.now expr.0 0 ≡ node.number node.ref
         → Turns source.now exprs.now count g names.old nodes.old work.old result names.new nodes.new work.new }
 {
     let item = StackItem {
-        expr: g.expr,
-        name: g.name,
+        expr,
+        name,
         waits: StackItem::FOR_NAME,
         right: NodeNo(0),
     };
-    let used = used_name(source, exprs, names, count, g.expr);
+    let used = used_name(source, exprs, names, count, expr);
     let status = tables::word(names, NameRecord::WORDS, used.0, NameRecord::NODE);
     if is_fresh(used.0, status) {
         let number = cursor::next_number(g.waiting);
@@ -278,13 +278,13 @@ fn refer(
 }
 
 // A part whose right child is made waits for its left child.
-fn turn_left(exprs: &[u32], work: &mut [u32], item: StackItem, g: Walker) -> Walker
+fn turn_left(exprs: &[u32], work: &mut [u32], item: StackItem, right: NodeNo, g: Walker) -> Walker
     ensures walk { result ≡ left_walker exprs.now item g }
-    ensures stack { work.new ≡ written work_width work.old g.waiting (item_words (left_item item g)) }
+    ensures stack { work.new ≡ written work_width work.old g.waiting (item_words (left_item item right)) }
 {
     let next = StackItem {
         waits: StackItem::FOR_LEFT,
-        right: g.node,
+        right,
         ..item
     };
     push(work, WorkNo(g.waiting), next);
@@ -308,36 +308,73 @@ fn come_up(
     count: u32,
     nodes: &mut [u32],
     work: &mut [u32],
+    node: NodeNo,
     g: Walker,
 ) -> Walker
-    ensures { g.up ≡ true → 1 ≤ g.waiting
+    ensures { g.step ≡ Step.Up node → 1 ≤ g.waiting
         → Turns source.now exprs.now count g names.old nodes.old work.old result names.new nodes.new work.new }
 {
     let item = item_at(work, WorkNo(g.waiting));
     if item.waits == StackItem::FOR_RIGHT {
-        return turn_left(exprs, work, item, g);
+        return turn_left(exprs, work, item, node, g);
     }
     if item.waits == StackItem::FOR_LEFT {
         let kind = node_kind(exprs, item.expr);
-        make_node(exprs, names, nodes, g.made, kind, item, g.node);
+        make_node(exprs, names, nodes, g.made, kind, item, node);
         return one_done(g);
     }
     let used = used_name(source, exprs, names, count, item.expr);
-    set_node(names, used, g.node);
+    set_node(names, used, node);
     let kind = NodeKind(NodeKind::REFERENCE);
-    make_node(exprs, names, nodes, g.made, kind, item, g.node);
+    make_node(exprs, names, nodes, g.made, kind, item, node);
     one_done(g)
 }
 
-// Whether there is a turn left.
-fn is_running(up: bool, waiting: u32) -> bool
-    ensures { result ≡ is_running up waiting }
+// A turn that goes down: passes an absent child, turns to a reference, or lets a part wait for its right child.
+fn go_down(
+    source: &[u8],
+    exprs: &[u32],
+    names: &mut [u32],
+    count: u32,
+    nodes: &mut [u32],
+    work: &mut [u32],
+    expr: ExprNo,
+    name: NameNo,
+    g: Walker,
+) -> Walker
+    ensures { g.step ≡ Step.Down expr name
+        → Turns source.now exprs.now count g names.old nodes.old work.old result names.new nodes.new work.new }
 {
-    !up | (waiting != 0)
+    if (expr.0 == 0) & (name.0 == 0) {
+        return coming_up(NodeNo(0), g.waiting, g.made);
+    }
+    let kind = tables::word(exprs, ExprRecord::WORDS, expr.0, ExprRecord::KIND);
+    if kind == NodeKind::REFERENCE {
+        return refer(source, exprs, names, count, nodes, work, expr, name, g);
+    }
+    let number = cursor::next_number(g.waiting);
+    let item = StackItem {
+        expr,
+        name,
+        waits: StackItem::FOR_RIGHT,
+        right: NodeNo(0),
+    };
+    push(work, WorkNo(number), item);
+    let right = tables::word(exprs, ExprRecord::WORDS, expr.0, ExprRecord::RIGHT);
+    going_down(ExprNo(right), NameNo(0), number, g.made)
 }
 
-// One turn: comes up to an item; or goes down, where it passes an absent child, turns to a reference, or lets a part wait for its
-// right child.
+// Whether there is a turn left.
+fn is_running(g: Walker) -> bool
+    ensures { result ≡ is_running g }
+{
+    match g.step {
+        Step::Down(..) => true,
+        Step::Up(_) => g.waiting != 0,
+    }
+}
+
+// One turn.
 fn turn(
     source: &[u8],
     exprs: &[u32],
@@ -347,29 +384,15 @@ fn turn(
     work: &mut [u32],
     g: Walker,
 ) -> Walker
-    ensures { is_running g.up g.waiting ≡ true
+    ensures { is_running g ≡ true
         → Turns source.now exprs.now count g names.old nodes.old work.old result names.new nodes.new work.new }
 {
-    if g.up {
-        return come_up(source, exprs, names, count, nodes, work, g);
+    match g.step {
+        Step::Down(expr, name) => {
+            go_down(source, exprs, names, count, nodes, work, expr, name, g)
+        }
+        Step::Up(node) => come_up(source, exprs, names, count, nodes, work, node, g),
     }
-    if (g.expr.0 == 0) & (g.name.0 == 0) {
-        return coming_up(NodeNo(0), g.waiting, g.made);
-    }
-    let kind = tables::word(exprs, ExprRecord::WORDS, g.expr.0, ExprRecord::KIND);
-    if kind == NodeKind::REFERENCE {
-        return refer(source, exprs, names, count, nodes, work, g);
-    }
-    let number = cursor::next_number(g.waiting);
-    let item = StackItem {
-        expr: g.expr,
-        name: g.name,
-        waits: StackItem::FOR_RIGHT,
-        right: NodeNo(0),
-    };
-    push(work, WorkNo(number), item);
-    let right = tables::word(exprs, ExprRecord::WORDS, g.expr.0, ExprRecord::RIGHT);
-    going_down(ExprNo(right), NameNo(0), number, g.made)
 }
 
 // All the turns.
@@ -386,12 +409,22 @@ fn run(
 {
     let mut h = g;
     for _ in 0..TURNS {
-        if !is_running(h.up, h.waiting) {
+        if !is_running(h) {
             break;
         }
         h = turn(source, exprs, names, count, nodes, work, h);
     }
     h
+}
+
+// The node that a walk comes up with; 0 if it goes down.
+fn last_node(g: Walker) -> NodeNo
+    ensures { result.0 ≡ last_node g }
+{
+    match g.step {
+        Step::Down(..) => NodeNo(0),
+        Step::Up(node) => node,
+    }
 }
 
 // Finishes a name if it is fresh. Returns how many nodes are made then.
@@ -412,7 +445,7 @@ fn visit(
         let first = begin_name(names, NameNo(n));
         let g = going_down(first, NameNo(n), 0, made);
         let h = run(source, exprs, names, count, nodes, work, g);
-        set_node(names, NameNo(n), h.node);
+        set_node(names, NameNo(n), last_node(h));
         return h.made;
     }
     made
