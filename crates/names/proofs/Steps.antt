@@ -1,25 +1,19 @@
 -- What a line does, by the tests that came before it; and that it is done. Assumes nothing.
 use Prim.Native.Nat.{ℕ}
 use mathlib.Core.Bool.{Bool, true, false}
-use mathlib.Core.Path.{◌≡◌, refl, sym, ap, subst, ◌∙◌}
+use mathlib.Core.Path.{◌≡◌, sym, ◌∙◌}
 use mathlib.Core.List.{List}
 use borrow.Author.Tests.{eq-eqb, ne_eqb}
-use Rattle.records.specs.Limits.{line_width, expr_width, name_width, error_width}
-use Rattle.records.specs.Records.{name_words, error_words}
+use Rattle.records.specs.Limits.{line_width, expr_width, name_width}
 use Rattle.records.specs.ErrorKind as error
 use Rattle.records.specs.declared.Span.{Span}
-use Rattle.records.specs.declared.NameRecord.{NameRecord}
-use Rattle.records.specs.declared.ErrorRecord.{ErrorRecord}
-use Rattle.records.specs.declared.numbers.NameNo.{NameNo}
-use Rattle.cursor.specs.Cursor.{next_number}
-use Rattle.tables.specs.Tables.{word_at, written, span_at}
+use Rattle.tables.specs.Tables.{word_at, span_at}
 use Rattle.literals.specs.Literals.{span_text}
 use Rattle.symbols.specs.Symbols.{Text, illegal, find_from}
 use Rattle.symbols.specs.Texts.{texts_from}
-use Rattle.names.specs.declared.NameCounts.{NameCounts}
 use Rattle.names.specs.declared.Entry.{Entry}
 use Rattle.names.specs.declared.Entry.TheVariants.{New, Known, Wrong, Nothing}
-use Rattle.names.specs.Code.{name_of, error_of, known_entry, legal_entry, name_entry, line_entry, Enters}
+use Rattle.names.specs.Code.{name_of, error_of, known_entry, legal_entry, name_entry, line_entry}
 
 module _ (exprs names : List ℕ) (k : ℕ) (s : Span) (e : ℕ) where
   pub known_first : (w : ℕ) (t : Span) → w ≡ word_at name_width names k 2 → w ≡ 0 → t ≡ span_at name_width names k 0 → Known (record { 0 = k }) (name_of t e) ≡ known_entry exprs names k s e
@@ -54,22 +48,3 @@ module _ (source exprs names : List ℕ) (n : ℕ) (s : Span) (e : ℕ) (x : Tex
 pub line_words_law : (source lines exprs names : List ℕ) (n i a b e : ℕ) (r : Entry) → a ≡ word_at line_width lines i 0 → b ≡ word_at line_width lines i 1 → e ≡ word_at line_width lines i 2 → r ≡ name_entry source exprs names n (record { start = record { 0 = a }; len = b }) e → r ≡ line_entry source lines exprs names n i
 unfolding line_entry
 line_words_law source lines exprs names n i a b e r ea eb ee er = er ∙ rw (ea, eb, ee)
-
--- ---- done
-
-module _ (a r : Entry) (e : r ≡ a) (c : NameCounts) (ns es : List ℕ) where
-  pub enters_new : (x : NameRecord) (k : ℕ) (ns' : List ℕ) → r ≡ New x → k ≡ next_number c.names → ns' ≡ written name_width ns k (name_words x) → Enters a c (record { names = k; errors = c.errors }) ns ns' es es
-  enters_new x k ns' f ek en =
-      subst (λ (q : Entry). Enters q c (record { names = k; errors = c.errors }) ns ns' es es) (sym f ∙ e)
-      (ap (λ (j : ℕ). record { names = j; errors = c.errors }) ek, en ∙ ap (λ (j : ℕ). written name_width ns j (name_words x)) ek, refl)
-
-  pub enters_known : (k : NameNo) (x : NameRecord) (ns' : List ℕ) → r ≡ Known k x → ns' ≡ written name_width ns k.0 (name_words x) → Enters a c c ns ns' es es
-  enters_known k x ns' f en = subst (λ (q : Entry). Enters q c c ns ns' es es) (sym f ∙ e) (refl, en, refl)
-
-  pub enters_wrong : (x : ErrorRecord) (k : ℕ) (es' : List ℕ) → r ≡ Wrong x → k ≡ next_number c.errors → es' ≡ written error_width es k (error_words x) → Enters a c (record { names = c.names; errors = k }) ns ns es es'
-  enters_wrong x k es' f ek en =
-      subst (λ (q : Entry). Enters q c (record { names = c.names; errors = k }) ns ns es es') (sym f ∙ e)
-      (ap (λ (j : ℕ). record { names = c.names; errors = j }) ek, refl, en ∙ ap (λ (j : ℕ). written error_width es j (error_words x)) ek)
-
-  pub enters_nothing : r ≡ Nothing → Enters a c c ns ns es es
-  enters_nothing f = subst (λ (q : Entry). Enters q c c ns ns es es) (sym f ∙ e) (refl, refl, refl)

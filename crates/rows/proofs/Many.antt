@@ -74,8 +74,3 @@ module _ {test : ℕ → Bool} {n i count : ℕ} (left : CountLeft test n i coun
   count_done h =
       let e : suc n - i ≡ 0 = omega arith in
       sym (left.sum ∙ rw e (omega arith))
-
-pub count_none : (test : ℕ → Bool) (n : ℕ) → CountLeft test n 1 0
-count_none test n =
-    let e : suc n - 1 ≡ n = omega arith in
-    record { few = omega arith; sum = rw e (omega arith) }

@@ -1,8 +1,6 @@
 -- `errors::node_errors` meets its contract. The loop's invariant: `Going`, for all nodes that the table may hold. Assumes nothing.
-use mathlib.Core.Path.{◌≡◌}
-use lib.ListN.{length}
 use Rattle.errors.proofs.Adding.{Going}
 use Rattle.errors.proofs.node_errors.Given as goal
 
 abbrev pub invariant-loop-number : goal.invariant-loop-number
-invariant-loop-number l = Going l.nodes l.count l.before l.initial.errors l.number l.made l.errors × (length l.errors ≡ length l.initial.errors)
+invariant-loop-number l = Going l.nodes l.count l.before l.initial.errors l.number l.made l.errors

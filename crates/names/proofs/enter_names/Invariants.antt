@@ -3,7 +3,6 @@
 use Prim.Native.Nat.{ℕ}
 use mathlib.Core.Path.{◌≡◌}
 use mathlib.Core.List.{List, []}
-use lib.ListN.{length}
 use Rattle.records.specs.Limits.{name_width, error_width}
 use Rattle.tables.specs.Tables.{table_of}
 use Rattle.grammar.specs.Tree.{Line}
@@ -13,6 +12,5 @@ use Rattle.names.proofs.enter_names.Given as goal
 
 abbrev pub invariant-loop-number : goal.invariant-loop-number
 invariant-loop-number l =
-    (length l.names ≡ length l.initial.names) × (length l.errors ≡ length l.initial.errors)
-    × ((old_n old_e : List ℕ) → l.initial.names ≡ table_of name_width [] old_n → l.initial.errors ≡ table_of error_width [] old_e → (ls : List Line) → HeldLines l.source l.lines l.exprs l.count ls
-    → SoFar old_n old_e ls l.number l.counts l.names l.errors)
+    (old_n old_e : List ℕ) → l.initial.names ≡ table_of name_width [] old_n → l.initial.errors ≡ table_of error_width [] old_e → (ls : List Line) → HeldLines l.source l.lines l.exprs l.count ls
+    → SoFar old_n old_e ls l.number l.counts l.names l.errors
