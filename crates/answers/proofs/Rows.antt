@@ -3,7 +3,6 @@ use Prim.Native.Nat.{ℕ}
 use mathlib.Core.Path.{◌≡◌}
 use Rattle.records.specs.declared.refusals.Refusal.{Refusal}
 use Rattle.lex.specs.Tokens.{row_of_lex, count_of}
-use Rattle.lex.specs.declared.LexAnswer.{LexAnswer}
 use Rattle.ends.specs.Rows.{row_of_parse, counts_of_parse, row_of_read, counts_of_read}
 use Rattle.ends.specs.declared.Counts.{Counts}
 use Rattle.ends.specs.declared.ParseAnswer.{ParseAnswer}
@@ -13,8 +12,10 @@ use Rattle.answers.specs.declared.LexedRow.{LexedRow}
 use Rattle.answers.specs.declared.ParsedRow.{ParsedRow}
 use Rattle.answers.specs.declared.ReadRow.{ReadRow}
 use Rattle.answers.specs.Rows.{lexed_row, parsed_row, read_row}
+use Rattle.lex.specs.declared.LexError.{LexError}
+use Rattle.std.specs.Prelude.{Result}
 
-pub lexed_row_law : (a : LexAnswer) (r : Refusal) (n : ℕ) → r ≡ row_of_lex a → n ≡ count_of a → ◌≡◌ {A = LexedRow} (record { no = r.no; value = r.value; place = r.place; tokens = n }) (lexed_row a)
+pub lexed_row_law : (a : Result ℕ LexError) (r : Refusal) (n : ℕ) → r ≡ row_of_lex a → n ≡ count_of a → ◌≡◌ {A = LexedRow} (record { no = r.no; value = r.value; place = r.place; tokens = n }) (lexed_row a)
 unfolding lexed_row
 lexed_row_law a r n er en = rw (er, en)
 

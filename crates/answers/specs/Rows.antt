@@ -1,7 +1,6 @@
 -- What a host is handed for an answer that is an enum: a struct of numbers.
 use Rattle.records.specs.declared.Span.{Span}
 use Rattle.lex.specs.Tokens.{row_of_lex, count_of}
-use Rattle.lex.specs.declared.LexAnswer.{LexAnswer}
 use Rattle.ends.specs.Rows.{row_of_parse, counts_of_parse, row_of_read, counts_of_read}
 use Rattle.ends.specs.declared.ParseAnswer.{ParseAnswer}
 use Rattle.ends.specs.declared.ReadAnswer.{ReadAnswer}
@@ -12,9 +11,11 @@ use Rattle.answers.specs.declared.ParsedRow.{ParsedRow}
 use Rattle.answers.specs.declared.ReadRow.{ReadRow}
 use Rattle.answers.specs.declared.PartRow.{PartRow}
 use Rattle.answers.specs.declared.ListedRow.{ListedRow}
+use Rattle.lex.specs.declared.LexError.{LexError}
+use Rattle.std.specs.Prelude.{Result}
 
 -- the row of the table of refusals, and how many tokens there are
-unfoldable pub lexed_row : LexAnswer → LexedRow
+unfoldable pub lexed_row : Result ℕ LexError → LexedRow
 lexed_row a = record { no = (row_of_lex a).no; value = (row_of_lex a).value; place = (row_of_lex a).place; tokens = count_of a }
 
 -- the row of the table of refusals, and how many records there are of each table

@@ -11,12 +11,6 @@ use Rattle.records.specs.Limits.{source_limit, record_limit, token_width, line_w
 use Rattle.tables.specs.Tables.{table_of}
 use Rattle.tables.proofs.Laws.{table_cleared, table_again, table_length}
 use Rattle.text.specs.Check.{check_text}
-use Rattle.text.specs.declared.TextAnswer.{TextAnswer}
-use Rattle.text.specs.declared.TextAnswer.TheVariants.{Valid, BadAt}
-use Rattle.lex.specs.declared.LexAnswer.{LexAnswer}
-use Rattle.lex.specs.declared.LexAnswer.TheVariants.{ShortTable, LongSource, NotUtf8, Ended}
-use Rattle.lex.specs.declared.LexEnd.{LexEnd}
-use Rattle.lex.specs.declared.LexEnd.TheVariants.{Tokens, NoToken, TooManyTokens}
 use Rattle.lex.specs.Tokens.{Token, lexing, rows_of, kept, token_table, lex_all, leaves}
 use Rattle.lex.proofs.Going.{rows_wide, rows_length}
 use Rattle.lex.proofs.Tiling.{tiling, tokens_lie, tokens_few}
@@ -36,6 +30,11 @@ use Rattle.ends.specs.declared.ParseEnd.TheVariants.{Lines, Refused}
 use Rattle.ends.specs.declared.ParseAnswer.{ParseAnswer}
 use Rattle.ends.specs.declared.ParseAnswer.TheVariants.{NotLexed, Parsed as WasParsed}
 use Rattle.ast.specs.Parsing.{ParserTables, tables, short_to_parse_by, lexed_by, tokens_kept, tokens_in, lines_in, end_by, parsing, holding_lines, parsed_by, left_by, parse_all, tables_after}
+use Rattle.std.specs.Prelude.{Err, Ok, Result}
+use Rattle.text.specs.declared.TextError.{TextError}
+use Rattle.text.specs.declared.TextError.TheVariants.{BadAt}
+use Rattle.lex.specs.declared.LexError.{LexError}
+use Rattle.lex.specs.declared.LexError.TheVariants.{LongSource, NoToken, NotUtf8, ShortTable, TooManyTokens}
 
 -- ---- room
 
@@ -56,24 +55,24 @@ has_room a b c d e =
 
 module _ (source table : List ℕ) (room : record_limit * token_width ≤ length table) where
   -- the table is not too short for it
-  pub lex_roomy : lex_all source table ≡ ShortTable → ⊥
+  pub lex_roomy : lex_all source table ≡ Err ShortTable → ⊥
   unfolding lex_all
   lex_roomy e = go (ltb source_limit (length source)) refl (check_text source) refl
     where
-      go : (b : Bool) → ltb source_limit (length source) ≡ b → (a : TextAnswer) → check_text source ≡ a → ⊥
-      go true h a k = let f : LongSource ≡ ShortTable = rw (le-ltb (length table) (record_limit * token_width) room, h) at e in absurd (let z : ◌≡◌ {A = ℕ} 0 1 = cc in omega arith)
-      go false h Valid k = let f : Ended (lexing source).answer ≡ ShortTable = rw (le-ltb (length table) (record_limit * token_width) room, h, k) at e in absurd (let z : ◌≡◌ {A = ℕ} 0 1 = cc in omega arith)
-      go false h (BadAt at) k = let f : NotUtf8 (record { 0 = at }) ≡ ShortTable = rw (le-ltb (length table) (record_limit * token_width) room, h, k) at e in absurd (let z : ◌≡◌ {A = ℕ} 0 1 = cc in omega arith)
+      go : (b : Bool) → ltb source_limit (length source) ≡ b → (a : Result (Unit {0}) TextError) → check_text source ≡ a → ⊥
+      go true h a k = let f : (Err LongSource) ≡ (Err ShortTable) = rw (le-ltb (length table) (record_limit * token_width) room, h) at e in absurd (let z : ◌≡◌ {A = ℕ} 0 1 = cc in omega arith)
+      go false h (Ok _) k = let f : (lexing source).answer ≡ (Err ShortTable) = rw (le-ltb (length table) (record_limit * token_width) room, h, k) at e in absurd (let z : ◌≡◌ {A = ℕ} 0 1 = cc in omega arith)
+      go false h (Err (BadAt at)) k = let f : Err (NotUtf8 (record { 0 = at })) ≡ (Err ShortTable) = rw (le-ltb (length table) (record_limit * token_width) room, h, k) at e in absurd (let z : ◌≡◌ {A = ℕ} 0 1 = cc in omega arith)
 
   -- how lexing ended
-  pub lex_ended : (x : LexEnd) → lex_all source table ≡ Ended x → ((lexing source).answer ≡ x) × (length source ≤ source_limit)
+  pub lex_ended : (x : Result ℕ LexError) → lex_all source table ≡ x → ((lexing source).answer ≡ x) × (length source ≤ source_limit)
   unfolding lex_all
   lex_ended x e = go (ltb source_limit (length source)) refl (check_text source) refl
     where
-      go : (b : Bool) → ltb source_limit (length source) ≡ b → (a : TextAnswer) → check_text source ≡ a → ((lexing source).answer ≡ x) × (length source ≤ source_limit)
-      go true h a k = let f : LongSource ≡ Ended x = rw (le-ltb (length table) (record_limit * token_width) room, h) at e in absurd (let z : ◌≡◌ {A = ℕ} 0 1 = cc in omega arith)
-      go false h Valid k = let f : Ended (lexing source).answer ≡ Ended x = rw (le-ltb (length table) (record_limit * token_width) room, h, k) at e in (let z : (lexing source).answer ≡ x = cc in z, ltb-false source_limit (length source) h)
-      go false h (BadAt at) k = let f : NotUtf8 (record { 0 = at }) ≡ Ended x = rw (le-ltb (length table) (record_limit * token_width) room, h, k) at e in absurd (let z : ◌≡◌ {A = ℕ} 0 1 = cc in omega arith)
+      go : (b : Bool) → ltb source_limit (length source) ≡ b → (a : Result (Unit {0}) TextError) → check_text source ≡ a → ((lexing source).answer ≡ x) × (length source ≤ source_limit)
+      go true h a k = let f : (Err LongSource) ≡ x = rw (le-ltb (length table) (record_limit * token_width) room, h) at e in absurd (let z : ◌≡◌ {A = ℕ} 0 1 = cc in omega arith)
+      go false h (Ok _) k = let f : (lexing source).answer ≡ x = rw (le-ltb (length table) (record_limit * token_width) room, h, k) at e in (let z : (lexing source).answer ≡ x = cc in z, ltb-false source_limit (length source) h)
+      go false h (Err (BadAt at)) k = let f : Err (NotUtf8 (record { 0 = at })) ≡ x = rw (le-ltb (length table) (record_limit * token_width) room, h, k) at e in absurd (let z : ◌≡◌ {A = ℕ} 0 1 = cc in omega arith)
 
 -- ---- the whole
 
@@ -81,7 +80,7 @@ module _ (source jets ts ls es ty : List ℕ) where
   abbrev old : ParserTables
   old = tables ts ls es ty
 
-  pub too_short : short_to_parse_by (length ts) (length ls) (length es) (length ty) ≡ true → (NotLexed ShortTable ≡ parse_all source jets old) × (tables ts ls es ty ≡ tables_after source jets old)
+  pub too_short : short_to_parse_by (length ts) (length ls) (length es) (length ty) ≡ true → (NotLexed (Err ShortTable) ≡ parse_all source jets old) × (tables ts ls es ty ≡ tables_after source jets old)
   unfolding parse_all tables_after
   too_short e = (rw e, rw e)
 
@@ -90,41 +89,41 @@ module _ (source jets ts ls es ty : List ℕ) where
     room = has_room (length ts) (length ls) (length es) (length ty) roomy
 
     -- an answer by the lexer's, and the tables by it
-    settled : (a : LexAnswer) (r : ParseAnswer) (new : ParserTables) → lex_all source ts ≡ a → r ≡ parsed_by source jets a → new ≡ left_by source jets old a → (r ≡ parse_all source jets old) × (new ≡ tables_after source jets old)
+    settled : (a : Result ℕ LexError) (r : ParseAnswer) (new : ParserTables) → lex_all source ts ≡ a → r ≡ parsed_by source jets a → new ≡ left_by source jets old a → (r ≡ parse_all source jets old) × (new ≡ tables_after source jets old)
     unfolding parse_all tables_after
     settled a r new e f g = (f ∙ rw (roomy, e), g ∙ rw (roomy, e))
 
     -- the source has not lexed
-    pub not_lexed : (a : LexAnswer) (x : Lexed) (ts' ls' es' ty' : List ℕ) → a ≡ lex_all source ts → ts' ≡ leaves (lex_all source ts) source ts → x ≡ lexed_by a → x ≡ No → ls' ≡ table_of line_width [] ls → es' ≡ table_of expr_width [] es → ty' ≡ table_of type_width [] ty
+    pub not_lexed : (a : Result ℕ LexError) (x : Lexed) (ts' ls' es' ty' : List ℕ) → a ≡ lex_all source ts → ts' ≡ leaves (lex_all source ts) source ts → x ≡ lexed_by a → x ≡ No → ls' ≡ table_of line_width [] ls → es' ≡ table_of expr_width [] es → ty' ≡ table_of type_width [] ty
         → (NotLexed a ≡ parse_all source jets old) × (tables ts' ls' es' ty' ≡ tables_after source jets old)
     unfolding line_records lines_exprs lines_types token_table
     not_lexed a x ts' ls' es' ty' ea et ex ey el ee ey' =
         let clean : tables ts' ls' es' ty' ≡ tables ts' (table_of line_width [] ls) (table_of expr_width [] es) (table_of type_width [] ty) = rw (el, ee, ey') in
-        go a (sym ea) (sym ex ∙ ey) (et ∙ ap (λ (q : LexAnswer). leaves q source ts) (sym ea)) clean
+        go a (sym ea) (sym ex ∙ ey) (et ∙ ap (λ (q : Result ℕ LexError). leaves q source ts) (sym ea)) clean
       where
-        go : (a : LexAnswer) → lex_all source ts ≡ a → lexed_by a ≡ No → ts' ≡ leaves a source ts → tables ts' ls' es' ty' ≡ tables ts' (table_of line_width [] ls) (table_of expr_width [] es) (table_of type_width [] ty) → (NotLexed a ≡ parse_all source jets old) × (tables ts' ls' es' ty' ≡ tables_after source jets old)
-        go ShortTable e n t k = absurd (lex_roomy source ts room.0 e)
-        go LongSource e n t k = settled LongSource (NotLexed LongSource) (tables ts' ls' es' ty') e refl (k ∙ rw t)
-        go (NotUtf8 at) e n t k = settled (NotUtf8 at) (NotLexed (NotUtf8 at)) (tables ts' ls' es' ty') e refl (k ∙ rw t)
-        go (Ended (Tokens m)) e n t k = absurd (let z : ◌≡◌ {A = ℕ} 0 1 = cc in omega arith)
-        go (Ended (NoToken at)) e n t k = settled (Ended (NoToken at)) (NotLexed (Ended (NoToken at))) (tables ts' ls' es' ty') e refl (k ∙ rw (t, (lex_ended source ts room.0 (NoToken at) e).0))
-        go (Ended (TooManyTokens at)) e n t k = settled (Ended (TooManyTokens at)) (NotLexed (Ended (TooManyTokens at))) (tables ts' ls' es' ty') e refl (k ∙ rw (t, (lex_ended source ts room.0 (TooManyTokens at) e).0))
+        go : (a : Result ℕ LexError) → lex_all source ts ≡ a → lexed_by a ≡ No → ts' ≡ leaves a source ts → tables ts' ls' es' ty' ≡ tables ts' (table_of line_width [] ls) (table_of expr_width [] es) (table_of type_width [] ty) → (NotLexed a ≡ parse_all source jets old) × (tables ts' ls' es' ty' ≡ tables_after source jets old)
+        go (Err ShortTable) e n t k = absurd (lex_roomy source ts room.0 e)
+        go (Err LongSource) e n t k = settled (Err LongSource) (NotLexed (Err LongSource)) (tables ts' ls' es' ty') e refl (k ∙ rw t)
+        go (Err (NotUtf8 at)) e n t k = settled (Err (NotUtf8 at)) (NotLexed (Err (NotUtf8 at))) (tables ts' ls' es' ty') e refl (k ∙ rw t)
+        go (Ok m) e n t k = absurd (let z : ◌≡◌ {A = ℕ} 0 1 = cc in omega arith)
+        go (Err (NoToken at)) e n t k = settled (Err (NoToken at)) (NotLexed (Err (NoToken at))) (tables ts' ls' es' ty') e refl (k ∙ rw (t, (lex_ended source ts room.0 (Err (NoToken at)) e).0))
+        go (Err (TooManyTokens at)) e n t k = settled (Err (TooManyTokens at)) (NotLexed (Err (TooManyTokens at))) (tables ts' ls' es' ty') e refl (k ∙ rw (t, (lex_ended source ts room.0 (Err (TooManyTokens at)) e).0))
 
     -- the source has lexed into m tokens
-    module _ (a : LexAnswer) (x : Lexed) (m : ℕ) (ts' : List ℕ) (ea : a ≡ lex_all source ts) (et : ts' ≡ leaves (lex_all source ts) source ts) (ex : x ≡ lexed_by a) (ey : x ≡ Count m) where
-      is_ended : (b : LexAnswer) → lexed_by b ≡ Count m → b ≡ Ended (Tokens m)
-      is_ended ShortTable e = absurd (let z : ◌≡◌ {A = ℕ} 0 1 = cc in omega arith)
-      is_ended LongSource e = absurd (let z : ◌≡◌ {A = ℕ} 0 1 = cc in omega arith)
-      is_ended (NotUtf8 at) e = absurd (let z : ◌≡◌ {A = ℕ} 0 1 = cc in omega arith)
-      is_ended (Ended (Tokens k)) e = ap (λ (i : ℕ). Ended (Tokens i)) (let z : k ≡ m = cc in z)
-      is_ended (Ended (NoToken at)) e = absurd (let z : ◌≡◌ {A = ℕ} 0 1 = cc in omega arith)
-      is_ended (Ended (TooManyTokens at)) e = absurd (let z : ◌≡◌ {A = ℕ} 0 1 = cc in omega arith)
+    module _ (a : Result ℕ LexError) (x : Lexed) (m : ℕ) (ts' : List ℕ) (ea : a ≡ lex_all source ts) (et : ts' ≡ leaves (lex_all source ts) source ts) (ex : x ≡ lexed_by a) (ey : x ≡ Count m) where
+      is_ended : (b : Result ℕ LexError) → lexed_by b ≡ Count m → b ≡ Ok m
+      is_ended (Err ShortTable) e = absurd (let z : ◌≡◌ {A = ℕ} 0 1 = cc in omega arith)
+      is_ended (Err LongSource) e = absurd (let z : ◌≡◌ {A = ℕ} 0 1 = cc in omega arith)
+      is_ended (Err (NotUtf8 at)) e = absurd (let z : ◌≡◌ {A = ℕ} 0 1 = cc in omega arith)
+      is_ended (Ok k) e = ap (λ (i : ℕ). (Ok i)) (let z : k ≡ m = cc in z)
+      is_ended (Err (NoToken at)) e = absurd (let z : ◌≡◌ {A = ℕ} 0 1 = cc in omega arith)
+      is_ended (Err (TooManyTokens at)) e = absurd (let z : ◌≡◌ {A = ℕ} 0 1 = cc in omega arith)
 
-      answered : lex_all source ts ≡ Ended (Tokens m)
+      answered : lex_all source ts ≡ Ok m
       answered = sym ea ∙ is_ended a (sym ex ∙ ey)
 
-      said : ((lexing source).answer ≡ Tokens m) × (length source ≤ source_limit)
-      said = lex_ended source ts room.0 (Tokens m) answered
+      said : ((lexing source).answer ≡ Ok m) × (length source ≤ source_limit)
+      said = lex_ended source ts room.0 (Ok m) answered
 
       pub source_short : length source ≤ source_limit
       source_short = said.1
@@ -140,7 +139,7 @@ module _ (source jets ts ls es ty : List ℕ) where
 
       table_is : ts' ≡ table_of token_width (rows_of all) ts
       unfolding token_table
-      table_is = et ∙ ap (λ (q : LexAnswer). leaves q source ts) answered ∙ ap (λ (q : LexEnd). table_of token_width (rows_of (kept q all)) ts) said.0
+      table_is = et ∙ ap (λ (q : Result ℕ LexError). leaves q source ts) answered ∙ ap (λ (q : Result ℕ LexError). table_of token_width (rows_of (kept q all)) ts) said.0
 
       small : length (rows_of all) ≤ record_limit
       small = omega (arith, rows_length all, size, count_few)
@@ -154,7 +153,7 @@ module _ (source jets ts ls es ty : List ℕ) where
       pub lexed : (r : ParseEnd) (new ls' es' ty' : List ℕ) → r ≡ end_by (length source) (tokens_left source ts' m 0) (lines (checks_of jets) (tokens_left source ts' m 0)) → new ≡ tokens_kept (lines (checks_of jets) (tokens_left source ts' m 0)) ts' → ls' ≡ table_of line_width (line_rows (lines_in (lines (checks_of jets) (tokens_left source ts' m 0)))) ls → es' ≡ table_of expr_width (expr_rows_of (lines_in (lines (checks_of jets) (tokens_left source ts' m 0)))) es → ty' ≡ table_of type_width (type_rows_of (lines_in (lines (checks_of jets) (tokens_left source ts' m 0)))) ty
           → (WasParsed r ≡ parse_all source jets old) × (tables new ls' es' ty' ≡ tables_after source jets old)
       lexed r new ls' es' ty' er en el ee ey' =
-          settled (Ended (Tokens m)) (WasParsed r) (tables new ls' es' ty') answered (ap WasParsed (er ∙ rw left_is)) (rw (en, el, ee, ey', left_is) (go (parsing source jets)))
+          settled (Ok m) (WasParsed r) (tables new ls' es' ty') answered (ap WasParsed (er ∙ rw left_is)) (rw (en, el, ee, ey', left_is) (go (parsing source jets)))
         where
           P : Parsed (List Line)
           P = parsing source jets

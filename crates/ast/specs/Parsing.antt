@@ -1,11 +1,8 @@
 -- Document 01: the lines of a source, with refusals 1 to 13 in their order; and what the four tables hold then.
-use Rattle.std.specs.Prelude.{ℕ, ◌*◌, Bool, ◌||◌, List, [], ltb, length, if◌then◌else◌}
+use Rattle.std.specs.Prelude.{ℕ, ◌*◌, Bool, ◌||◌, List, [], ltb, length, if◌then◌else◌, Err, Ok, Result}
 use Rattle.records.specs.Limits.{record_limit, token_width, line_width, expr_width, type_width}
 use Rattle.tables.specs.Tables.{table_of}
 use Rattle.lex.specs.Tokens.{Token, lexing, rows_of, lex_all}
-use Rattle.lex.specs.declared.LexAnswer.{LexAnswer}
-use Rattle.lex.specs.declared.LexAnswer.TheVariants.{ShortTable, LongSource, NotUtf8, Ended}
-use Rattle.lex.specs.declared.LexEnd.TheVariants.{Tokens, NoToken, TooManyTokens}
 use Rattle.checks.specs.Checks.{checks_of}
 use Rattle.cursor.specs.Cursor.{refusal_at}
 use Rattle.grammar.specs.Tree.{Line}
@@ -19,6 +16,8 @@ use Rattle.ends.specs.declared.ParseEnd.{ParseEnd}
 use Rattle.ends.specs.declared.ParseEnd.TheVariants.{Lines, Refused}
 use Rattle.ends.specs.declared.ParseAnswer.{ParseAnswer}
 use Rattle.ends.specs.declared.ParseAnswer.TheVariants.{NotLexed, Parsed as WasParsed}
+use Rattle.lex.specs.declared.LexError.{LexError}
+use Rattle.lex.specs.declared.LexError.TheVariants.{LongSource, NoToken, NotUtf8, ShortTable, TooManyTokens}
 
 -- ---- what was read
 
@@ -81,34 +80,34 @@ holding_lines ts ls old =
     }
 
 -- how many tokens there are, if the source has lexed
-abbrev pub lexed_by : LexAnswer → Lexed
-lexed_by ShortTable = No
-lexed_by LongSource = No
-lexed_by (NotUtf8 at) = No
-lexed_by (Ended (Tokens n)) = Count n
-lexed_by (Ended (NoToken at)) = No
-lexed_by (Ended (TooManyTokens at)) = No
+abbrev pub lexed_by : Result ℕ LexError → Lexed
+lexed_by (Err ShortTable) = No
+lexed_by (Err LongSource) = No
+lexed_by (Err (NotUtf8 at)) = No
+lexed_by (Ok n) = Count n
+lexed_by (Err (NoToken at)) = No
+lexed_by (Err (TooManyTokens at)) = No
 
 -- what is answered once the source is lexed: 6 to 13 only when the whole source has lexed
-abbrev pub parsed_by : (source jets : List ℕ) → LexAnswer → ParseAnswer
-parsed_by source jets (Ended (Tokens n)) = WasParsed (end_by (length source) (lexing source).tokens (parsing source jets))
-parsed_by source jets (Ended (NoToken at)) = NotLexed (Ended (NoToken at))
-parsed_by source jets (Ended (TooManyTokens at)) = NotLexed (Ended (TooManyTokens at))
-parsed_by source jets ShortTable = NotLexed ShortTable
-parsed_by source jets LongSource = NotLexed LongSource
-parsed_by source jets (NotUtf8 at) = NotLexed (NotUtf8 at)
+abbrev pub parsed_by : (source jets : List ℕ) → Result ℕ LexError → ParseAnswer
+parsed_by source jets (Ok n) = WasParsed (end_by (length source) (lexing source).tokens (parsing source jets))
+parsed_by source jets (Err (NoToken at)) = NotLexed (Err (NoToken at))
+parsed_by source jets (Err (TooManyTokens at)) = NotLexed (Err (TooManyTokens at))
+parsed_by source jets (Err ShortTable) = NotLexed (Err ShortTable)
+parsed_by source jets (Err LongSource) = NotLexed (Err LongSource)
+parsed_by source jets (Err (NotUtf8 at)) = NotLexed (Err (NotUtf8 at))
 
 -- refusal 1 changes no word; 2 to 13 set the records to zero
-abbrev pub left_by : (source jets : List ℕ) → ParserTables → LexAnswer → ParserTables
-left_by source jets old (Ended (Tokens n)) = holding_lines (tokens_in (lexing source).tokens (parsing source jets)) (lines_in (parsing source jets)) old
-left_by source jets old (Ended (NoToken at)) = holding_lines [] [] old
-left_by source jets old (Ended (TooManyTokens at)) = holding_lines [] [] old
-left_by source jets old ShortTable = old
-left_by source jets old LongSource = holding_lines [] [] old
-left_by source jets old (NotUtf8 at) = holding_lines [] [] old
+abbrev pub left_by : (source jets : List ℕ) → ParserTables → Result ℕ LexError → ParserTables
+left_by source jets old (Ok n) = holding_lines (tokens_in (lexing source).tokens (parsing source jets)) (lines_in (parsing source jets)) old
+left_by source jets old (Err (NoToken at)) = holding_lines [] [] old
+left_by source jets old (Err (TooManyTokens at)) = holding_lines [] [] old
+left_by source jets old (Err ShortTable) = old
+left_by source jets old (Err LongSource) = holding_lines [] [] old
+left_by source jets old (Err (NotUtf8 at)) = holding_lines [] [] old
 
-abbrev pub lex_answer : (source : List ℕ) → ParserTables → LexAnswer
-lex_answer source old = if short_to_parse old then ShortTable else lex_all source old.tokens
+abbrev pub lex_answer : (source : List ℕ) → ParserTables → Result ℕ LexError
+lex_answer source old = if short_to_parse old then Err ShortTable else lex_all source old.tokens
 
 unfoldable pub parse_all : (source jets : List ℕ) → ParserTables → ParseAnswer
 parse_all source jets old = parsed_by source jets (lex_answer source old)

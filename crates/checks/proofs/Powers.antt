@@ -1,5 +1,5 @@
 -- Powers of two, and the exponents that decimal digits say. Assumes nothing.
-use Rattle.std.specs.Prelude.{if◌then◌else◌}
+use Rattle.std.specs.Prelude.{if◌then◌else◌, Err, None, Option, Some}
 use Prim.Native.Nat.{ℕ, zero, suc, ◌+◌, ◌-◌, ◌*◌, ◌^◌, ◌≤◌, ◌<◌}
 use mathlib.Core.Bool.{Bool, true, false}
 use mathlib.Core.Path.{◌≡◌, refl, sym, ap, ◌∙◌}
@@ -11,10 +11,7 @@ use lib.Dec.{eqb, ltb}
 use lib.ListN.{length, drop, get_or, drop_of_length-le}
 use lib.Seq.{drop-cons}
 use borrow.Author.Tests.{eq-eqb, ne_eqb, eqb-true, eqb-false, lt-ltb, le-ltb, ltb-true, ltb-false}
-use Rattle.checks.specs.declared.Log2.{Log2}
-use Rattle.checks.specs.declared.Log2.TheVariants.{Exactly, NoPower}
 use Rattle.checks.specs.declared.Fault.TheVariants.{NumberOutOfRange}
-use Rattle.checks.specs.declared.PowerVerdict.TheVariants.{BadPower}
 use Rattle.checks.specs.Powers.{log2, RightLog2, number_from, exponent_of}
 use Rattle.checks.specs.Checks.{power_by, power_verdict}
 use Rattle.checks.specs.Code.{exponent_cap, capped}
@@ -30,7 +27,7 @@ lt_or_le a b = go (ltb a b) refl
 
 -- the clauses of the definition, at k = j + 1
 module _ (n p k j : ℕ) (e : p ≡ 2 ^ j) where
-  pub log2_hit : n ≡ p → k ≡ suc j → log2 k n ≡ Exactly j
+  pub log2_hit : n ≡ p → k ≡ suc j → log2 k n ≡ Some j
   unfolding log2
   log2_hit q s = rw (s, eq-eqb n (2 ^ j) (q ∙ e))
 
@@ -38,7 +35,7 @@ module _ (n p k j : ℕ) (e : p ≡ 2 ^ j) where
   unfolding log2
   log2_miss q s = rw (s, ne_eqb n (2 ^ j) (λ x. q (x ∙ sym e)))
 
-pub log2_end : (k n : ℕ) → k ≤ 0 → log2 k n ≡ NoPower
+pub log2_end : (k n : ℕ) → k ≤ 0 → log2 k n ≡ None
 unfolding log2
 log2_end zero n h = refl
 log2_end (suc k) n h = absurd (omega arith)
@@ -48,10 +45,10 @@ unfolding log2
 log2_right zero n = λ k h e. absurd (omega arith)
 log2_right (suc b) n = go (eqb n (2 ^ b)) refl (log2 b n) (log2_right b n)
   where
-    go : (t : Bool) → eqb n (2 ^ b) ≡ t → (l : Log2) → RightLog2 b n l → RightLog2 (suc b) n (if t then Exactly b else l)
+    go : (t : Bool) → eqb n (2 ^ b) ≡ t → (l : Option ℕ) → RightLog2 b n l → RightLog2 (suc b) n (if t then Some b else l)
     go true e l r = (eqb-true n (2 ^ b) e, omega arith)
-    go false e (Exactly k) (p, h) = (p, omega arith)
-    go false e NoPower r =
+    go false e (Some k) (p, h) = (p, omega arith)
+    go false e None r =
         λ k h p.
         ⊎_elim
         (λ x. r k x p)
@@ -60,10 +57,10 @@ log2_right (suc b) n = go (eqb n (2 ^ b)) refl (log2 b n) (log2_right b n)
         eqb-false n (2 ^ b) e (p ∙ ap (λ (j : ℕ). 2 ^ j) z))
         (lt_or_le k b)
 
-pub log2_exact : (bound n k : ℕ) → log2 bound n ≡ Exactly k → (n ≡ 2 ^ k) × (k < bound)
+pub log2_exact : (bound n k : ℕ) → log2 bound n ≡ Some k → (n ≡ 2 ^ k) × (k < bound)
 log2_exact bound n k e = rw e at (log2_right bound n)
 
-pub log2_none : (bound n : ℕ) → log2 bound n ≡ NoPower → (k : ℕ) → k < bound → n ≡ 2 ^ k → ⊥
+pub log2_none : (bound n : ℕ) → log2 bound n ≡ None → (k : ℕ) → k < bound → n ≡ 2 ^ k → ⊥
 log2_none bound n e = rw e at (log2_right bound n)
 
 -- ---- exponents
@@ -95,7 +92,7 @@ module _ (text : List ℕ) (i n : ℕ) where
 
 -- e is the exponent up to the cap
 module _ (text : List ℕ) (e : ℕ) (q : e ≡ capped (exponent_of text)) where
-  pub power_big : 4294967295 < e → power_verdict text ≡ BadPower NumberOutOfRange
+  pub power_big : 4294967295 < e → power_verdict text ≡ Err NumberOutOfRange
   unfolding power_verdict capped
   power_big h = rw (lt-ltb 4294967295 (exponent_of text) (omega arith))
 

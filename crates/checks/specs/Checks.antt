@@ -1,17 +1,11 @@
 -- Document 01, Refusals 7 to 12: the tests on a token's kind and text. They are one record, so that the grammar knows neither
 -- the jet list nor what a text says; and the row of the table of refusals for each fault of the grammar.
-use Rattle.std.specs.Prelude.{ℕ, List, length, ltb, if◌then◌else◌}
+use Rattle.std.specs.Prelude.{ℕ, List, length, ltb, if◌then◌else◌, Err, None, Ok, Option, Result, Some}
 use Rattle.records.specs.Refusals.{Refused, parse_failed, bad_word_length, short_fail, long_fail, unknown_jet, bad_power, big_exponent, too_deep}
 use Rattle.records.specs.declared.kinds.TokenKind.{TokenKind}
 use Rattle.literals.specs.Literals.{bit_length}
 use Rattle.checks.specs.declared.Fault.{Fault}
 use Rattle.checks.specs.declared.Fault.TheVariants.{ParseFailed, BadWordLength, EntropyInsufficient, EntropyTooMuch, UnknownJet, Bad2ExpNumber, NumberOutOfRange, TooDeep}
-use Rattle.checks.specs.declared.Log2.{Log2}
-use Rattle.checks.specs.declared.Log2.TheVariants.{Exactly, NoPower}
-use Rattle.checks.specs.declared.Verdict.{Verdict}
-use Rattle.checks.specs.declared.Verdict.TheVariants.{Pass, Fails}
-use Rattle.checks.specs.declared.PowerVerdict.{PowerVerdict}
-use Rattle.checks.specs.declared.PowerVerdict.TheVariants.{Power, BadPower}
 use Rattle.checks.specs.Powers.{log2, exponent_of}
 use Rattle.checks.specs.Jets.{known}
 
@@ -32,42 +26,42 @@ refused_at at TooDeep = too_deep at
 
 -- a test on a token's kind and text
 pub record Checks : Type 0 where
-  pub word : TokenKind → List ℕ → Verdict  -- the literal of `const`
-  pub fail : TokenKind → List ℕ → Verdict  -- the literal of `fail`
-  pub jet : List ℕ → Verdict
-  pub power : List ℕ → PowerVerdict  -- gives n for 2^e with e = 2^n
+  pub word : TokenKind → List ℕ → (Result (Unit {0}) Fault)  -- the literal of `const`
+  pub fail : TokenKind → List ℕ → (Result (Unit {0}) Fault)  -- the literal of `fail`
+  pub jet : List ℕ → Result (Unit {0}) Fault
+  pub power : List ℕ → (Result ℕ Fault)  -- gives n for 2^e with e = 2^n
 
 -- no source has a literal of so many bits
 abbrev pub word_bound : ℕ
 word_bound = 32
 
-abbrev pub word_by : (bits : ℕ) → Log2 → Verdict
-word_by bits (Exactly k) = Pass
-word_by bits NoPower = Fails (BadWordLength bits)
+abbrev pub word_by : (bits : ℕ) → Option ℕ → Result (Unit {0}) Fault
+word_by bits (Some k) = Ok tt
+word_by bits None = Err (BadWordLength bits)
 
 -- refusal 7: `const` takes a bit length that is a power of two
-unfoldable pub word_verdict : (bits : ℕ) → Verdict
+unfoldable pub word_verdict : (bits : ℕ) → Result (Unit {0}) Fault
 word_verdict bits = word_by bits (log2 word_bound bits)
 
 -- refusals 8 and 9: `fail` takes 128 to 512 bits
-unfoldable pub fail_verdict : (bits : ℕ) → Verdict
+unfoldable pub fail_verdict : (bits : ℕ) → Result (Unit {0}) Fault
 fail_verdict bits =
-    if ltb bits 128 then Fails (EntropyInsufficient bits)
-    else if ltb 512 bits then Fails (EntropyTooMuch bits)
-    else Pass
+    if ltb bits 128 then Err (EntropyInsufficient bits)
+    else if ltb 512 bits then Err (EntropyTooMuch bits)
+    else Ok tt
 
 -- refusal 10: a jet has to be known
-unfoldable pub jet_verdict : (jets text : List ℕ) → Verdict
-jet_verdict jets text = if known jets text then Pass else Fails UnknownJet
+unfoldable pub jet_verdict : (jets text : List ℕ) → Result (Unit {0}) Fault
+jet_verdict jets text = if known jets text then Ok tt else Err UnknownJet
 
-abbrev pub power_by : (exponent : ℕ) → Log2 → PowerVerdict
-power_by e (Exactly n) = Power n
-power_by e NoPower = BadPower (Bad2ExpNumber e)
+abbrev pub power_by : (exponent : ℕ) → Option ℕ → Result ℕ Fault
+power_by e (Some n) = Ok n
+power_by e None = Err (Bad2ExpNumber e)
 
 -- refusals 12 and 11: a `2^` exponent is 1 or 2, 4, 8 up to 512
-unfoldable pub power_verdict : (text : List ℕ) → PowerVerdict
+unfoldable pub power_verdict : (text : List ℕ) → Result ℕ Fault
 power_verdict text =
-    if ltb 4294967295 (exponent_of text) then BadPower NumberOutOfRange
+    if ltb 4294967295 (exponent_of text) then Err NumberOutOfRange
     else power_by (exponent_of text) (log2 10 (exponent_of text))
 
 -- document 01's tests, for a jet list

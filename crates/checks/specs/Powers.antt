@@ -1,21 +1,19 @@
 -- Document 01, Grammar: powers of two, and the exponent behind `2^`.
-use Rattle.std.specs.Prelude.{ℕ, zero, suc, ◌+◌, ◌-◌, ◌*◌, ◌^◌, ◌<◌, ◌≡◌, List, [], ◌∷◌, drop, eqb, if◌then◌else◌}
-use Rattle.checks.specs.declared.Log2.{Log2}
-use Rattle.checks.specs.declared.Log2.TheVariants.{Exactly, NoPower}
+use Rattle.std.specs.Prelude.{ℕ, zero, suc, ◌+◌, ◌-◌, ◌*◌, ◌^◌, ◌<◌, ◌≡◌, List, [], ◌∷◌, drop, eqb, if◌then◌else◌, None, Option, Some}
 
 -- ---- powers of two
 
 -- the k below the bound with 2 ^ k ≡ n, if there is one
-unfoldable pub log2 : (bound n : ℕ) → Log2
-log2 zero n = NoPower
+unfoldable pub log2 : (bound n : ℕ) → Option ℕ
+log2 zero n = None
 log2 (suc k) n =
-    let smaller : Log2 = log2 k n in
-    if eqb n (2 ^ k) then Exactly k else smaller
+    let smaller : Option ℕ = log2 k n in
+    if eqb n (2 ^ k) then Some k else smaller
 
 -- what is right to answer, without computing
-abbrev pub RightLog2 : (bound n : ℕ) → Log2 → Type 0
-RightLog2 bound n (Exactly k) = (n ≡ 2 ^ k) × (k < bound)
-RightLog2 bound n NoPower = (k : ℕ) → k < bound → n ≡ 2 ^ k → ⊥
+abbrev pub RightLog2 : (bound n : ℕ) → Option ℕ → Type 0
+RightLog2 bound n (Some k) = (n ≡ 2 ^ k) × (k < bound)
+RightLog2 bound n None = (k : ℕ) → k < bound → n ≡ 2 ^ k → ⊥
 
 -- ---- the exponent of a power of two
 

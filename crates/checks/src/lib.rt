@@ -25,27 +25,6 @@ pub enum Fault {
     TooDeep,
 }
 
-// A token's text passes, or it is refused.
-#[derive(Clone, Copy)]
-pub enum Verdict {
-    Pass,
-    Fails(Fault),
-}
-
-// A power of two passes as 2^(2^n), or it is refused.
-#[derive(Clone, Copy)]
-pub enum PowerVerdict {
-    Power(u32),
-    BadPower(Fault),
-}
-
-// The k of 2^k, if the number is a power of two.
-#[derive(Clone, Copy)]
-pub enum Log2 {
-    Exactly(u32),
-    NoPower,
-}
-
 // Bytes of `2^`, and of `jet_`.
 const EXPONENT_PREFIX: usize = 2;
 
@@ -112,7 +91,7 @@ fn power_of_two(k: u32) -> u32
 }
 
 // The k below the bound with 2^k = n, if there is one.
-fn exact_log2(bound: u32, n: u32) -> Log2
+fn exact_log2(bound: u32, n: u32) -> Option<u32>
     requires { bound ≤ 32 }
     ensures { result ≡ log_of bound n }
 {
@@ -120,33 +99,33 @@ fn exact_log2(bound: u32, n: u32) -> Log2
     while 0 < k {
         k -= 1;
         if n == power_of_two(k) {
-            return Log2::Exactly(k);
+            return Some(k);
         }
     }
-    Log2::NoPower
+    None
 }
 
 // Whether `const` takes a literal of so many bits.
-pub fn check_word(bits: u32) -> Verdict
+pub fn check_word(bits: u32) -> Result<(), Fault>
     ensures { result ≡ word_verdict bits }
 {
     match exact_log2(WORD_BOUND, bits) {
-        Log2::Exactly(_) => Verdict::Pass,
-        Log2::NoPower => Verdict::Fails(Fault::BadWordLength(bits)),
+        Some(_) => Ok(()),
+        None => Err(Fault::BadWordLength(bits)),
     }
 }
 
 // Whether `fail` takes a literal of so many bits.
-pub fn check_fail(bits: u32) -> Verdict
+pub fn check_fail(bits: u32) -> Result<(), Fault>
     ensures { result ≡ fail_verdict bits }
 {
     if bits < FAIL_LEAST {
-        return Verdict::Fails(Fault::EntropyInsufficient(bits));
+        return Err(Fault::EntropyInsufficient(bits));
     }
     if FAIL_MOST < bits {
-        return Verdict::Fails(Fault::EntropyTooMuch(bits));
+        return Err(Fault::EntropyTooMuch(bits));
     }
-    Verdict::Pass
+    Ok(())
 }
 
 // Whether the name is the piece that begins at an offset of the jet list.
@@ -260,14 +239,14 @@ fn is_listed(jets: &[u8], name: &[u8]) -> bool
 }
 
 // Whether a jet is known, by its token's text.
-pub fn check_jet(jets: &[u8], text: &[u8]) -> Verdict
+pub fn check_jet(jets: &[u8], text: &[u8]) -> Result<(), Fault>
     ensures { result ≡ jet_verdict jets.now text.now }
 {
     let at = tables::lesser(JET_PREFIX, text.len());
     if is_listed(jets, &text[at..]) {
-        Verdict::Pass
+        Ok(())
     } else {
-        Verdict::Fails(Fault::UnknownJet)
+        Err(Fault::UnknownJet)
     }
 }
 
@@ -294,16 +273,16 @@ fn exponent(text: &[u8]) -> usize
 }
 
 // The n of 2^(2^n), by the token's text.
-pub fn check_power(text: &[u8]) -> PowerVerdict
+pub fn check_power(text: &[u8]) -> Result<u32, Fault>
     ensures { result ≡ power_verdict text.now }
 {
     let e = exponent(text);
     if EXPONENT_MOST < e {
-        return PowerVerdict::BadPower(Fault::NumberOutOfRange);
+        return Err(Fault::NumberOutOfRange);
     }
     let e = e as u32;
     match exact_log2(POWER_BOUND, e) {
-        Log2::Exactly(n) => PowerVerdict::Power(n),
-        Log2::NoPower => PowerVerdict::BadPower(Fault::Bad2ExpNumber(e)),
+        Some(n) => Ok(n),
+        None => Err(Fault::Bad2ExpNumber(e)),
     }
 }

@@ -1,6 +1,6 @@
 -- What holds of every reading without refusal: demand 3, that no root is lost, and that no table has more records than there are
 -- tokens. Each is had from the same said of the walk's nodes, whose records take over kind, children and span. Assumes nothing.
-use Rattle.std.specs.Prelude.{if◌then◌else◌}
+use Rattle.std.specs.Prelude.{if◌then◌else◌, Err, Ok, Result}
 use Prim.Native.Nat.{ℕ, zero, suc, ◌+◌, ◌≤◌, ◌<◌}
 use mathlib.Core.Bool.{Bool, true, false}
 use mathlib.Core.Path.{◌≡◌, refl, sym, ap, subst, ◌∙◌}
@@ -17,11 +17,7 @@ use Rattle.records.specs.Refusals as refusal
 use Rattle.records.specs.declared.NameRecord.{NameRecord}
 use Rattle.records.specs.declared.NodeRecord.{NodeRecord}
 use Rattle.text.specs.Check.{check_text}
-use Rattle.text.specs.declared.TextAnswer.{TextAnswer}
-use Rattle.text.specs.declared.TextAnswer.TheVariants.{Valid, BadAt}
 use Rattle.lex.specs.Tokens.{Token, lexing}
-use Rattle.lex.specs.declared.LexEnd.{LexEnd}
-use Rattle.lex.specs.declared.LexEnd.TheVariants.{Tokens, NoToken, TooManyTokens}
 use Rattle.checks.specs.Checks.{checks_of}
 use Rattle.grammar.specs.Tree.{Line}
 use Rattle.grammar.specs.Rule.{Parsed, got, stop}
@@ -44,6 +40,10 @@ use Rattle.reader.specs.Reading.{Contents, contents, read, refused, by_lines, by
 use Rattle.reader.proofs.Answers.{counts_held}
 use Rattle.reader.proofs.Fits.{resolved_fit}
 use Rattle.demands.specs.Demands.{lines_read, JudgesAgree, ChildrenBefore, OnLoop, MissingOnLoops, Referred, NoRootLost, Few}
+use Rattle.text.specs.declared.TextError.{TextError}
+use Rattle.text.specs.declared.TextError.TheVariants.{BadAt}
+use Rattle.lex.specs.declared.LexError.{LexError}
+use Rattle.lex.specs.declared.LexError.TheVariants.{NoToken, TooManyTokens}
 
 -- ---- what was read
 
@@ -64,14 +64,14 @@ was_read source jets c = size (ltb source_limit (length source))
     lines (got ls rest) q e = let held : c ≡ contents (lexing source).tokens ls = cc in record { rest = rest; parsed = rw q; held = rw q held }
     lines (stop x rest) q e = absurd (not_read _ c e)
 
-    tokens : (a : LexEnd) → by_tokens source jets a ≡ read c → WasRead source jets c
-    tokens (Tokens n) e = lines (parsing source jets) refl e
-    tokens (NoToken at) e = absurd (not_read _ c e)
-    tokens (TooManyTokens at) e = absurd (not_read _ c e)
+    tokens : (a : Result ℕ LexError) → by_tokens source jets a ≡ read c → WasRead source jets c
+    tokens (Ok n) e = lines (parsing source jets) refl e
+    tokens (Err (NoToken at)) e = absurd (not_read _ c e)
+    tokens (Err (TooManyTokens at)) e = absurd (not_read _ c e)
 
-    text : (a : TextAnswer) → by_text source jets a ≡ read c → WasRead source jets c
-    text Valid e = tokens (lexing source).answer e
-    text (BadAt at) e = absurd (not_read _ c e)
+    text : (a : Result (Unit {0}) TextError) → by_text source jets a ≡ read c → WasRead source jets c
+    text (Ok _) e = tokens (lexing source).answer e
+    text (Err (BadAt at)) e = absurd (not_read _ c e)
 
     size : (b : Bool) → (if b then refused refusal.long_source else by_text source jets (check_text source)) ≡ read c → WasRead source jets c
     size true e = absurd (not_read _ c e)

@@ -9,7 +9,6 @@ use native.Mathlib.Omega.{arith}
 use lib.ListN.{length, length-append}
 use Rattle.records.specs.NodeKind as node
 use Rattle.records.specs.declared.Span.{Span}
-use Rattle.lex.specs.declared.LexEnd.TheVariants.{Tokens}
 use Rattle.lex.specs.Tokens.{Token, lexing}
 use Rattle.lex.specs.Tiles.{Tiles, end, skip, token}
 use Rattle.lex.proofs.Tiling.{tiling}
@@ -36,6 +35,7 @@ use Rattle.walk.specs.Stands.{sum}
 use Rattle.walk.proofs.Count.{Weighs, sum_append}
 use Rattle.walk.proofs.Sizes.{Agrees, sum_le, first_or, named_nodes_weigh, nodes_weigh_firsts, pays, costs, cost, lines_pay}
 use Rattle.errors.specs.Errors.{errors_by, node_errors, all_errors}
+use Rattle.std.specs.Prelude.{Ok}
 
 module _ (w : Span → ℕ) where
   abbrev pub tokens_weigh : List Token → ℕ
@@ -201,7 +201,7 @@ tiles_weigh (skip x s p e r) = omega (arith, tiles_weigh r, length-append x s)
 tiles_weigh (token t s es p e r) = omega (arith, tiles_weigh r, length-append t.text s)
 
 -- THE TOKENS' TEXTS ARE TOGETHER NO LONGER THAN THE SOURCE
-pub tokens_weigh_law : (source : List ℕ) (n : ℕ) → (lexing source).answer ≡ Tokens n → sum (map (λ (t : Token). length t.text) (lexing source).tokens) ≤ length source
+pub tokens_weigh_law : (source : List ℕ) (n : ℕ) → (lexing source).answer ≡ Ok n → sum (map (λ (t : Token). length t.text) (lexing source).tokens) ≤ length source
 tokens_weigh_law source n e = tiles_weigh (tiling source n e).0
 
 -- ---- so the names that are shown are together no longer than the source
@@ -214,7 +214,7 @@ bytes_of (some x) = length x.text
 abbrev pub name_bytes : (names : List Token) → (n : ℕ) → ℕ
 name_bytes ns n = bytes_of (record_no ns n)
 
-module _ (source : List ℕ) (n : ℕ) (lexed : (lexing source).answer ≡ Tokens n) (checks : Checks) (ls : List Line) (rest : List Token) (parsed : lines checks (lexing source).tokens ≡ got ls rest) where
+module _ (source : List ℕ) (n : ℕ) (lexed : (lexing source).answer ≡ Ok n) (checks : Checks) (ls : List Line) (rest : List Token) (parsed : lines checks (lexing source).tokens ≡ got ls rest) where
   -- those of the errors
   pub error_names_fit : sum (map (λ (e : Error). e.name.len) (all_errors ls)) ≤ length source
   error_names_fit = omega (arith, errors_weigh_law (λ (s : Span). s.len) checks (lexing source).tokens ls rest parsed, tokens_weigh_law source n lexed)

@@ -1,6 +1,6 @@
 -- Reading does not look at places: with the tokens at other places it answers the same, with its places moved in the same way
 -- (`no_look`). So tokens that differ in nothing but places are read alike (`read_alike`). Assumes nothing.
-use Rattle.std.specs.Prelude.{if◌then◌else◌}
+use Rattle.std.specs.Prelude.{if◌then◌else◌, Err, Ok, Result}
 use Prim.Native.Nat.{ℕ, zero, suc}
 use mathlib.Core.Bool.{Bool, true, false}
 use mathlib.Core.Path.{◌≡◌, refl, sym, ap, ◌∙◌}
@@ -14,10 +14,6 @@ use Rattle.records.specs.TokenKind as token
 use Rattle.lex.specs.Tokens.{Token}
 use Rattle.checks.specs.declared.Fault.{Fault}
 use Rattle.checks.specs.declared.Fault.TheVariants.{ParseFailed, TooDeep}
-use Rattle.checks.specs.declared.Verdict.{Verdict}
-use Rattle.checks.specs.declared.Verdict.TheVariants.{Pass, Fails}
-use Rattle.checks.specs.declared.PowerVerdict.{PowerVerdict}
-use Rattle.checks.specs.declared.PowerVerdict.TheVariants.{Power, BadPower}
 use Rattle.literals.specs.Literals.{is_kind}
 use Rattle.checks.specs.Checks.{Checks}
 use Rattle.grammar.specs.Tree as tree
@@ -134,11 +130,11 @@ module _ (g : ℕ → ℕ) where
     whole_moves : (x : Ty) → Moves moved_type_head (give (grammar.whole (moved_type g x))) (give (grammar.whole x))
     whole_moves x = moves_give moved_type_head (grammar.whole x)
 
-    power_moves : (t : Token) (v : PowerVerdict) → Moves moved_type_head (power (moved_token g t) v) (power t v)
+    power_moves : (t : Token) (v : Result ℕ Fault) → Moves moved_type_head (power (moved_token g t) v) (power t v)
     unfolding moved_type
-    power_moves t (Power zero) = whole_moves tree.two
-    power_moves t (Power (suc n)) = whole_moves (tree.power (suc n))
-    power_moves t (BadPower x) = moves_back moved_type_head t x
+    power_moves t (Ok zero) = whole_moves tree.two
+    power_moves t (Ok (suc n)) = whole_moves (tree.power (suc n))
+    power_moves t (Err x) = moves_back moved_type_head t x
 
     type_head_moves : Moves moved_type_head (type_head checks) (type_head checks)
     unfolding type_head moved_type
@@ -197,10 +193,10 @@ module _ (g : ℕ → ℕ) where
     moved_head (grammar.assertr at) = grammar.assertr (g at)
 
     -- a test of the token that was taken last
-    passed_moves : {A : Type 0} {f : A → A} {p q : Rule A} (t : Token) (v : Verdict) → Moves f p q → Moves f (passed (moved_token g t) v >> p) (passed t v >> q)
+    passed_moves : {A : Type 0} {f : A → A} {p q : Rule A} (t : Token) (v : Result (Unit {0}) Fault) → Moves f p q → Moves f (passed (moved_token g t) v >> p) (passed t v >> q)
     unfolding go_on
-    passed_moves t Pass m = record { by = m.by }
-    passed_moves t (Fails x) m = record { by = λ ts. refl }
+    passed_moves t (Ok _) m = record { by = m.by }
+    passed_moves t (Err x) m = record { by = λ ts. refl }
 
     leaf_moves : (e : Expr) → Moves moved_head (give (grammar.leaf (moved_expr g e))) (give (grammar.leaf e))
     leaf_moves e = moves_give moved_head (grammar.leaf e)

@@ -10,10 +10,6 @@ use Rattle.records.specs.Limits.{depth_limit}
 use Rattle.records.specs.TokenKind as token
 use Rattle.lex.specs.Tokens.{Token}
 use Rattle.checks.specs.declared.Fault.TheVariants.{TooDeep}
-use Rattle.checks.specs.declared.Verdict.{Verdict}
-use Rattle.checks.specs.declared.Verdict.TheVariants.{Pass, Fails}
-use Rattle.checks.specs.declared.PowerVerdict.{PowerVerdict}
-use Rattle.checks.specs.declared.PowerVerdict.TheVariants.{Power, BadPower}
 use Rattle.literals.specs.Literals.{is_kind}
 use Rattle.checks.specs.Checks.{Checks}
 use Rattle.grammar.specs.Tree as tree
@@ -25,6 +21,8 @@ use Rattle.grammar.specs.Derives as is
 use Rattle.grammar.specs.Derives.{OneOf, Is, IsType, IsAtom, IsExpr, IsCmr, IsArrow, IsLine, IsFile}
 use Rattle.grammar.proofs.Obeys.{same_end, gets, Obeys, After, obeys_give, obeys_refuse, obeys_back, obeys_after, obeys_then, obeys_map, obeys_one_of, all, ◌▹◌, obeys_choice, Perhaps, no, yes, obeys_perhaps, Stepped, done, more, obeys_steps, obeys_repeat, obeying_front}
 use Rattle.grammar.proofs.Repeat.{Steps, repeat_ends}
+use Rattle.checks.specs.declared.Fault.{Fault}
+use Rattle.std.specs.Prelude.{Err, Ok, Result}
 
 -- a kind of several
 of_first : (p q : Bool) → p || false ≡ true → p || q ≡ true
@@ -42,10 +40,10 @@ pub underscore_names : (t : Token) → Is token.underscore t → OneOf names t
 underscore_names t = of_later (is_kind token.symbol t.kind) (is_of t (token.underscore ∷ []))
 
 -- a test of the token that was taken last
-passed_after : {A : Type 0} {G : A → List Token → Type 0} (t : Token) (v : Verdict) (p : Rule A) → (v ≡ Pass → Obeys p (λ a us. G a (t ∷ us))) → After t (passed t v >> p) G
+passed_after : {A : Type 0} {G : A → List Token → Type 0} (t : Token) (v : Result (Unit {0}) Fault) (p : Rule A) → (v ≡ Ok tt → Obeys p (λ a us. G a (t ∷ us))) → After t (passed t v >> p) G
 unfolding go_on
-passed_after t Pass p h = obeys_after (h refl)
-passed_after t (Fails x) p h = obeys_back t x
+passed_after t (Ok _) p h = obeys_after (h refl)
+passed_after t (Err x) p h = obeys_back t x
 
 module _ (checks : Checks) where
   -- ---- types
@@ -55,9 +53,9 @@ module _ (checks : Checks) where
     whole : {x : Ty} {us : List Token} → ((d : ℕ) → IsAtom checks d us x) → AtomBegins (grammar.whole x) us
     group : {t : Token} → Is token.lparen t → AtomBegins grammar.group (t ∷ [])
 
-  power_after : (t : Token) (v : PowerVerdict) → Is token.power t → checks.power t.text ≡ v → After t (power t v) AtomBegins
-  power_after t (Power n) i e = obeys_after (obeys_give (grammar.whole (power_of n)) (whole (λ d. is.power t n i e)))
-  power_after t (BadPower x) i e = obeys_back t x
+  power_after : (t : Token) (v : Result ℕ Fault) → Is token.power t → checks.power t.text ≡ v → After t (power t v) AtomBegins
+  power_after t (Ok n) i e = obeys_after (obeys_give (grammar.whole (power_of n)) (whole (λ d. is.power t n i e)))
+  power_after t (Err x) i e = obeys_back t x
 
   pub type_head_obeys : Obeys (type_head checks) AtomBegins
   unfolding type_head

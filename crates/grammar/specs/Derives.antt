@@ -1,12 +1,10 @@
 -- Document 01, Grammar, as rules of derivation: which tokens make a type, an expression, a CMR, a line, a file, and which tree
 -- they make. `depth` is how much depth is left. proofs/: the grammar accepts just what is derived here.
-use Rattle.std.specs.Prelude.{ℕ, suc, ◌≡◌, true, List, [], ◌∷◌, ◌++◌}
+use Rattle.std.specs.Prelude.{ℕ, suc, ◌≡◌, true, List, [], ◌∷◌, ◌++◌, Ok}
 use Rattle.std.proofs.Math.Option.{none, some}
 use Rattle.records.specs.Limits.{depth_limit}
 use Rattle.records.specs.TokenKind as token
 use Rattle.lex.specs.Tokens.{Token}
-use Rattle.checks.specs.declared.Verdict.TheVariants.{Pass}
-use Rattle.checks.specs.declared.PowerVerdict.TheVariants.{Power}
 use Rattle.checks.specs.Checks.{Checks}
 use Rattle.grammar.specs.Tree as tree
 use Rattle.grammar.specs.Tree.{Nullary, nullary_token, Unary, unary_token, Binary, binary_token, Expr, Cmr, Op, op_token, Ty, Arrow, Line}
@@ -35,7 +33,7 @@ module _ (checks : Checks) where
     pub data IsAtom : (depth : ℕ) → List Token → Ty → Type 0 where
       one : {d : ℕ} (t : Token) → Is token.one t → IsAtom d (t ∷ []) tree.one
       two : {d : ℕ} (t : Token) → Is token.two t → IsAtom d (t ∷ []) tree.two
-      power : {d : ℕ} (t : Token) (n : ℕ) → Is token.power t → checks.power t.text ≡ Power n → IsAtom d (t ∷ []) (power_of n)
+      power : {d : ℕ} (t : Token) (n : ℕ) → Is token.power t → checks.power t.text ≡ Ok n → IsAtom d (t ∷ []) (power_of n)
       name : {d : ℕ} (t : Token) → Is token.symbol t → IsAtom d (t ∷ []) (tree.name t)
       absent : {d : ℕ} (t : Token) → Is token.underscore t → IsAtom d (t ∷ []) tree.absent
       group : {d : ℕ} {ts : List Token} {x : Ty} (t u : Token) → Is token.lparen t → IsType d ts x → Is token.rparen u → IsAtom d (between t ts u) x
@@ -43,9 +41,9 @@ module _ (checks : Checks) where
   mutual
     pub data IsExpr : (depth : ℕ) → List Token → Expr → Type 0 where
       hole : {d : ℕ} (t x : Token) → Is token.question t → OneOf names x → IsExpr (suc d) (t ∷ x ∷ []) (tree.hole x)
-      const : {d : ℕ} (t l : Token) → Is token.const t → OneOf literals l → checks.word l.kind l.text ≡ Pass → IsExpr (suc d) (t ∷ l ∷ []) (tree.const l)
-      fail : {d : ℕ} (t l : Token) → Is token.fail t → OneOf literals l → checks.fail l.kind l.text ≡ Pass → IsExpr (suc d) (t ∷ l ∷ []) (tree.fail t.start l)
-      jet : {d : ℕ} (t : Token) → Is token.jet t → checks.jet t.text ≡ Pass → IsExpr (suc d) (t ∷ []) (tree.jet t)
+      const : {d : ℕ} (t l : Token) → Is token.const t → OneOf literals l → checks.word l.kind l.text ≡ Ok tt → IsExpr (suc d) (t ∷ l ∷ []) (tree.const l)
+      fail : {d : ℕ} (t l : Token) → Is token.fail t → OneOf literals l → checks.fail l.kind l.text ≡ Ok tt → IsExpr (suc d) (t ∷ l ∷ []) (tree.fail t.start l)
+      jet : {d : ℕ} (t : Token) → Is token.jet t → checks.jet t.text ≡ Ok tt → IsExpr (suc d) (t ∷ []) (tree.jet t)
       ref : {d : ℕ} (x : Token) → OneOf names x → IsExpr (suc d) (x ∷ []) (tree.ref x)
       nullary : {d : ℕ} (k : Nullary) (t : Token) → Is (nullary_token k) t → IsExpr (suc d) (t ∷ []) (tree.nullary k t.start)
       parens : {d : ℕ} {ts : List Token} {e : Expr} (t u : Token) → Is token.lparen t → IsExpr d ts e → Is token.rparen u → IsExpr (suc d) (between t ts u) e

@@ -1,18 +1,15 @@
 -- Document 01, Grammar: types, expressions and CMRs, lines. A `do` block reads from the left, as the page says the rule.
-use Rattle.std.specs.Prelude.{ℕ, zero, suc, List, [], ◌∷◌, ◌++◌, map}
+use Rattle.std.specs.Prelude.{ℕ, zero, suc, List, [], ◌∷◌, ◌++◌, map, Err, Ok, Result}
 use Rattle.std.proofs.Math.Option.{Option, none, some}
 use Rattle.records.specs.Limits.{depth_limit}
 use Rattle.records.specs.TokenKind as token
 use Rattle.lex.specs.Tokens.{Token}
 use Rattle.checks.specs.declared.Fault.TheVariants.{TooDeep}
-use Rattle.checks.specs.declared.Verdict.{Verdict}
-use Rattle.checks.specs.declared.Verdict.TheVariants.{Pass, Fails}
-use Rattle.checks.specs.declared.PowerVerdict.{PowerVerdict}
-use Rattle.checks.specs.declared.PowerVerdict.TheVariants.{Power, BadPower}
 use Rattle.checks.specs.Checks.{Checks}
 use Rattle.grammar.specs.Tree as tree
 use Rattle.grammar.specs.Tree.{Nullary, nullary_token, Unary, unary_token, Binary, binary_token, Expr, Cmr, Op, op_token, Ty, Arrow, Line}
 use Rattle.grammar.specs.Rule.{got, Rule, go_on, ◌>>=◌, ◌>>◌, give, refuse, refuse_at, one_of, expect, Table, choice, perhaps, repeat}
+use Rattle.checks.specs.declared.Fault.{Fault}
 
 -- a name is a symbol or `_`
 abbrev pub names : List token.Kind
@@ -23,9 +20,9 @@ abbrev pub literals : List token.Kind
 literals = token.underscore ∷ token.bin ∷ token.hex ∷ []
 
 -- what a test says of the token t, which was taken last
-abbrev pub passed : Token → Verdict → Rule (Unit {0})
-passed t Pass = give tt
-passed t (Fails x) = refuse_at t x
+abbrev pub passed : Token → Result (Unit {0}) Fault → Rule (Unit {0})
+passed t (Ok _) = give tt
+passed t (Err x) = refuse_at t x
 
 -- ---- types, by a token's kind alone
 
@@ -39,9 +36,9 @@ abbrev pub power_of : (n : ℕ) → Ty
 power_of zero = tree.two
 power_of (suc n) = tree.power (suc n)
 
-abbrev pub power : Token → PowerVerdict → Rule TypeHead
-power t (Power n) = give (whole (power_of n))
-power t (BadPower x) = refuse_at t x
+abbrev pub power : Token → Result ℕ Fault → Rule TypeHead
+power t (Ok n) = give (whole (power_of n))
+power t (Err x) = refuse_at t x
 
 -- `+` and `*`, in one table since they have one rank
 abbrev pub operators : Table Op

@@ -1,5 +1,5 @@
 -- What begins an expression, by the token's kind. Assumes nothing.
-use Rattle.std.specs.Prelude.{if◌then◌else◌}
+use Rattle.std.specs.Prelude.{if◌then◌else◌, Err, Ok, Result}
 use Prim.Native.Nat.{ℕ, ◌+◌}
 use mathlib.Core.Bool.{Bool, true, false}
 use mathlib.Core.Path.{◌≡◌, refl, sym, ap, subst, ◌∙◌}
@@ -11,8 +11,6 @@ use Rattle.records.specs.declared.kinds.NodeKind.{NodeKind}
 use Rattle.lex.specs.Tokens.{Token, record_of}
 use Rattle.matches.specs.Code.{NotIn}
 use Rattle.checks.specs.declared.Fault.TheVariants.{ParseFailed}
-use Rattle.checks.specs.declared.Verdict.{Verdict}
-use Rattle.checks.specs.declared.Verdict.TheVariants.{Pass, Fails}
 use Rattle.literals.specs.Literals.{bit_length, span_text}
 use Rattle.checks.specs.Checks.{word_verdict, fail_verdict, jet_verdict, Checks, checks_of}
 use Rattle.cursor.specs.declared.Cursor.{Cursor}
@@ -39,6 +37,7 @@ use Rattle.heads.specs.declared.Keyword.TheVariants.{Nullary as NullaryWord, Una
 use Rattle.heads.specs.declared.LiteralAnswer.{LiteralAnswer}
 use Rattle.heads.specs.Answers.{LeafExpr, HeadReads, of_part, part_keywords, KeywordIs, keyword_head, literal_answer, hole_head, tested_by, word_head, fail_head}
 use Rattle.heads.proofs.Steps.{next_is}
+use Rattle.checks.specs.declared.Fault.{Fault}
 
 -- ---- expressions of one record
 
@@ -110,9 +109,9 @@ module _ (s jets tokens : List ℕ) (n : ℕ) (c : Cursor) (ready : Ready n c) w
   word_reads [] e = (ParseFailed, [], refl, refl)
   word_reads (u ∷ rest) e = go (is_of u literals) refl (word_verdict (bit_length u.kind (length u.text))) refl
     where
-      go : (b : Bool) → is_of u literals ≡ b → (v : Verdict) → word_verdict (bit_length u.kind (length u.text)) ≡ v → Is (word checks (u ∷ rest)) (word_head (literal_answer (length s) c (u ∷ rest)))
-      go true f Pass g = rw (f, g) (tree.const u, rest, refl, leaf_word u, reached_first s tokens n u ready e)
-      go true f (Fails x) g = rw (f, g) (x, u ∷ rest, refl, refl)
+      go : (b : Bool) → is_of u literals ≡ b → (v : Result (Unit {0}) Fault) → word_verdict (bit_length u.kind (length u.text)) ≡ v → Is (word checks (u ∷ rest)) (word_head (literal_answer (length s) c (u ∷ rest)))
+      go true f (Ok _) g = rw (f, g) (tree.const u, rest, refl, leaf_word u, reached_first s tokens n u ready e)
+      go true f (Err x) g = rw (f, g) (x, u ∷ rest, refl, refl)
       go false f v g = rw f (ParseFailed, u ∷ rest, refl, refl)
 
   fail_reads : (at : ℕ) (ts : List Token) → left ≡ ts → Is (failing checks at ts) (fail_head (record { 0 = at }) (literal_answer (length s) c ts))
@@ -120,9 +119,9 @@ module _ (s jets tokens : List ℕ) (n : ℕ) (c : Cursor) (ready : Ready n c) w
   fail_reads at [] e = (ParseFailed, [], refl, refl)
   fail_reads at (u ∷ rest) e = go (is_of u literals) refl (fail_verdict (bit_length u.kind (length u.text))) refl
     where
-      go : (b : Bool) → is_of u literals ≡ b → (v : Verdict) → fail_verdict (bit_length u.kind (length u.text)) ≡ v → Is (failing checks at (u ∷ rest)) (fail_head (record { 0 = at }) (literal_answer (length s) c (u ∷ rest)))
-      go true f Pass g = rw (f, g) (tree.fail at u, rest, refl, leaf_fail at u, reached_first s tokens n u ready e)
-      go true f (Fails x) g = rw (f, g) (x, u ∷ rest, refl, refl)
+      go : (b : Bool) → is_of u literals ≡ b → (v : Result (Unit {0}) Fault) → fail_verdict (bit_length u.kind (length u.text)) ≡ v → Is (failing checks at (u ∷ rest)) (fail_head (record { 0 = at }) (literal_answer (length s) c (u ∷ rest)))
+      go true f (Ok _) g = rw (f, g) (tree.fail at u, rest, refl, leaf_fail at u, reached_first s tokens n u ready e)
+      go true f (Err x) g = rw (f, g) (x, u ∷ rest, refl, refl)
       go false f v g = rw f (ParseFailed, u ∷ rest, refl, refl)
 
   -- ---- by the token before the cursor, whose record is r
@@ -131,10 +130,10 @@ module _ (s jets tokens : List ℕ) (n : ℕ) (c : Cursor) (ready : Ready n c) w
     abbrev t : Token
     t = token_of s r
 
-    jet_reads : (v : Verdict) → jet_verdict jets t.text ≡ v → Is (jet checks t left) (tested_by (jet_verdict jets t.text) (Jet (span_of t)) r.span.start r.span c)
+    jet_reads : (v : Result (Unit {0}) Fault) → jet_verdict jets t.text ≡ v → Is (jet checks t left) (tested_by (jet_verdict jets t.text) (Jet (span_of t)) r.span.start r.span c)
     unfolding HeadReads tested_by go_on
-    jet_reads Pass g = rw g (tree.jet t, left, refl, leaf_jet t, reached_none s tokens n ready)
-    jet_reads (Fails x) g = rw g (x, t ∷ left, refl, refl)
+    jet_reads (Ok _) g = rw g (tree.jet t, left, refl, leaf_jet t, reached_none s tokens n ready)
+    jet_reads (Err x) g = rw g (x, t ∷ left, refl, refl)
 
     module _ (h : ExprHead) where
       abbrev Reads : Type 0

@@ -1,5 +1,5 @@
 -- What each small function answers, by the tests and the matches that came before it. Assumes nothing.
-use Rattle.std.specs.Prelude.{if◌then◌else◌}
+use Rattle.std.specs.Prelude.{if◌then◌else◌, Result}
 use Prim.Native.Nat.{ℕ, ◌+◌, ◌≤◌}
 use mathlib.Core.Bool.{Bool, true, false, ◌||◌}
 use mathlib.Core.Path.{◌≡◌, refl, sym, ap, ◌∙◌}
@@ -18,7 +18,6 @@ use Rattle.records.specs.declared.numbers.ByteOffset.{ByteOffset}
 use Rattle.records.specs.declared.numbers.ExprNo.{ExprNo}
 use Rattle.lex.specs.Tokens.{Token, record_of}
 use Rattle.checks.specs.declared.Fault.TheVariants.{ParseFailed}
-use Rattle.checks.specs.declared.Verdict.{Verdict}
 use Rattle.literals.specs.Literals.{bit_length, span_text}
 use Rattle.checks.specs.Checks.{word_verdict, fail_verdict, jet_verdict}
 use Rattle.cursor.specs.declared.Cursor.{Cursor}
@@ -42,6 +41,7 @@ use Rattle.heads.specs.declared.ExprHead.{ExprHead}
 use Rattle.heads.specs.declared.ExprHead.TheVariants.{Whole, Refused as NoHead}
 use Rattle.heads.specs.declared.Keyword.{Keyword}
 use Rattle.heads.specs.Answers.{record_with, expr_record_by, literal_answer, hole_head, tested_by, word_head, fail_head, keyword_head}
+use Rattle.checks.specs.declared.Fault.{Fault}
 
 -- ---- records
 
@@ -62,28 +62,28 @@ right_as e at f g = g ∙ ap (λ (q : Cmr). expr_record_by (AssertR q e) at) (sy
 pub keyword_as : {w v : Keyword} (at : ByteOffset) (c : Cursor) → w ≡ v → keyword_head v at c ≡ keyword_head w at c
 keyword_as at c e = ap (λ (q : Keyword). keyword_head q at c) (sym e)
 
-pub tested_as : {v w : Verdict} (i : ExprInner) (at : ByteOffset) (s : Span) (c : Cursor) → v ≡ w → tested_by w i at s c ≡ tested_by v i at s c
-tested_as i at s c e = ap (λ (q : Verdict). tested_by q i at s c) (sym e)
+pub tested_as : {v w : Result (Unit {0}) Fault} (i : ExprInner) (at : ByteOffset) (s : Span) (c : Cursor) → v ≡ w → tested_by w i at s c ≡ tested_by v i at s c
+tested_as i at s c e = ap (λ (q : Result (Unit {0}) Fault). tested_by q i at s c) (sym e)
 
 module _ {p : LiteralAnswer} where
-  pub word_read : {s : Span} {bits : ℕ} {c : Cursor} {v : Verdict} {h : ExprHead} → p ≡ ReadLiteral s bits c → v ≡ word_verdict bits → h ≡ tested_by v (Word s) s.start s c → h ≡ word_head p
+  pub word_read : {s : Span} {bits : ℕ} {c : Cursor} {v : Result (Unit {0}) Fault} {h : ExprHead} → p ≡ ReadLiteral s bits c → v ≡ word_verdict bits → h ≡ tested_by v (Word s) s.start s c → h ≡ word_head p
   unfolding word_head
-  word_read {s} {c = c} e f g = g ∙ ap (λ (q : Verdict). tested_by q (Word s) s.start s c) f ∙ ap word_head (sym e)
+  word_read {s} {c = c} e f g = g ∙ ap (λ (q : Result (Unit {0}) Fault). tested_by q (Word s) s.start s c) f ∙ ap word_head (sym e)
 
   pub word_refused : {x : ParseRefusal} → p ≡ NoLiteral x → NoHead x ≡ word_head p
   unfolding word_head
   word_refused e = rw e
 
-  pub fail_read : {s : Span} {bits : ℕ} {c : Cursor} {v : Verdict} (at : ByteOffset) {h : ExprHead} → p ≡ ReadLiteral s bits c → v ≡ fail_verdict bits → h ≡ tested_by v (Fail s) at s c → h ≡ fail_head at p
+  pub fail_read : {s : Span} {bits : ℕ} {c : Cursor} {v : Result (Unit {0}) Fault} (at : ByteOffset) {h : ExprHead} → p ≡ ReadLiteral s bits c → v ≡ fail_verdict bits → h ≡ tested_by v (Fail s) at s c → h ≡ fail_head at p
   unfolding fail_head
-  fail_read {s} {c = c} at e f g = g ∙ ap (λ (q : Verdict). tested_by q (Fail s) at s c) f ∙ ap (fail_head at) (sym e)
+  fail_read {s} {c = c} at e f g = g ∙ ap (λ (q : Result (Unit {0}) Fault). tested_by q (Fail s) at s c) f ∙ ap (fail_head at) (sym e)
 
   pub fail_refused : {x : ParseRefusal} (at : ByteOffset) → p ≡ NoLiteral x → NoHead x ≡ fail_head at p
   unfolding fail_head
   fail_refused at e = rw e
 
-pub jet_tested : (source jets text : List ℕ) (s : Span) (c : Cursor) {v : Verdict} {h : ExprHead} → text ≡ span_text source s → v ≡ jet_verdict jets text → h ≡ tested_by v (Jet s) s.start s c → h ≡ tested_by (jet_verdict jets (span_text source s)) (Jet s) s.start s c
-jet_tested source jets text s c e f g = g ∙ ap (λ (q : Verdict). tested_by q (Jet s) s.start s c) (f ∙ ap (jet_verdict jets) e)
+pub jet_tested : (source jets text : List ℕ) (s : Span) (c : Cursor) {v : Result (Unit {0}) Fault} {h : ExprHead} → text ≡ span_text source s → v ≡ jet_verdict jets text → h ≡ tested_by v (Jet s) s.start s c → h ≡ tested_by (jet_verdict jets (span_text source s)) (Jet s) s.start s c
+jet_tested source jets text s c e f g = g ∙ ap (λ (q : Result (Unit {0}) Fault). tested_by q (Jet s) s.start s c) (f ∙ ap (jet_verdict jets) e)
 
 -- ---- the next token
 

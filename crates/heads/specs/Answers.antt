@@ -1,6 +1,6 @@
 -- What begins an expression: the answers of the functions that look at its first tokens, beside what the grammar says of them; and
 -- the record of an expression whose parts are numbers.
-use Rattle.std.specs.Prelude.{ℕ, ◌+◌, ◌≡◌, List, [], ◌∷◌, map, length, if◌then◌else◌}
+use Rattle.std.specs.Prelude.{ℕ, ◌+◌, ◌≡◌, List, [], ◌∷◌, map, length, if◌then◌else◌, Err, Ok, Result}
 use Rattle.records.specs.TokenKind as token
 use Rattle.records.specs.NodeKind as node
 use Rattle.records.specs.Records.{no_span}
@@ -13,8 +13,6 @@ use Rattle.lex.specs.Tokens.{Token}
 use Rattle.matches.specs.Code.{NotIn}
 use Rattle.checks.specs.declared.Fault.{Fault}
 use Rattle.checks.specs.declared.Fault.TheVariants.{ParseFailed}
-use Rattle.checks.specs.declared.Verdict.{Verdict}
-use Rattle.checks.specs.declared.Verdict.TheVariants.{Pass, Fails}
 use Rattle.literals.specs.Literals.{bit_length}
 use Rattle.checks.specs.Checks.{word_verdict, fail_verdict}
 use Rattle.cursor.specs.declared.Cursor.{Cursor}
@@ -98,9 +96,9 @@ hole_head end c (t ∷ ts) =
     else NoHead (refusal_at end ParseFailed (t ∷ ts))
 
 -- an expression whose literal or jet, of this span, passed its test or did not
-unfoldable pub tested_by : Verdict → ExprInner → (at : ByteOffset) → Span → Cursor → ExprHead
-tested_by Pass i at s c = Whole i at c
-tested_by (Fails x) i at s c = NoHead (record { fault = x; at = s.start })
+unfoldable pub tested_by : Result (Unit {0}) Fault → ExprInner → (at : ByteOffset) → Span → Cursor → ExprHead
+tested_by (Ok _) i at s c = Whole i at c
+tested_by (Err x) i at s c = NoHead (record { fault = x; at = s.start })
 
 -- the literal behind `const`, which is its place
 unfoldable pub word_head : LiteralAnswer → ExprHead

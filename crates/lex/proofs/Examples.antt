@@ -6,23 +6,24 @@ use mathlib.Core.List.{List, [], ◌∷◌, map}
 use lib.ListN.{length}
 use Rattle.records.specs.Base.{bytes}
 use Rattle.records.specs.TokenKind as token
-use Rattle.lex.specs.declared.LexEnd.{LexEnd}
-use Rattle.lex.specs.declared.LexEnd.TheVariants.{Tokens, NoToken}
 use Rattle.classes.specs.Classes.{starts, run}
 use Rattle.matches.specs.Longest.{match_len, best, lex_at}
 use Rattle.lex.specs.Tokens.{lex_from, lexing, rows_of}
+use Rattle.lex.specs.declared.LexError.{LexError}
+use Rattle.lex.specs.declared.LexError.TheVariants.{NoToken}
+use Rattle.std.specs.Prelude.{Err, Ok, Result}
 
 -- a source, the rows of its tokens, and how lexing ends
 pub record Example : Type 0 where
   pub source : String
   pub rows : List (List ℕ)
-  pub answer : LexEnd
+  pub answer : Result ℕ LexError
 
 abbrev pub lexes : String → List (List ℕ) → Example
-lexes s rs = record { source = s; rows = rs; answer = Tokens (length rs) }
+lexes s rs = record { source = s; rows = rs; answer = Ok (length rs) }
 
 abbrev pub stops : String → List (List ℕ) → ℕ → Example
-stops s rs at = record { source = s; rows = rs; answer = NoToken (record { 0 = at }) }
+stops s rs at = record { source = s; rows = rs; answer = Err (NoToken (record { 0 = at })) }
 
 -- kind, start, length
 abbrev tok : token.Kind → (start size : ℕ) → List ℕ

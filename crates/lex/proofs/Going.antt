@@ -1,5 +1,5 @@
 -- The loop over a text: the tokens met so far, their table, and what is still to lex. Assumes nothing.
-use Rattle.std.specs.Prelude.{if◌then◌else◌}
+use Rattle.std.specs.Prelude.{if◌then◌else◌, Err, Ok, Result}
 use Prim.Native.Nat.{ℕ, zero, suc, pred, ◌+◌, ◌≤◌, ◌<◌}
 use mathlib.Core.Bool.{Bool, true, false}
 use mathlib.Core.Path.{◌≡◌, refl, sym, ap, ◌∙◌}
@@ -18,14 +18,12 @@ use Rattle.tables.specs.Tables.{table_of, written}
 use Rattle.tables.proofs.Laws.{Wide, none, wide_map, table_append, table_again}
 use Rattle.matches.specs.declared.Lexed.{Lexed}
 use Rattle.matches.specs.declared.Lexed.TheVariants.{Token as OfKind, Skip, NoMatch}
-use Rattle.lex.specs.declared.LexEnd.{LexEnd}
-use Rattle.lex.specs.declared.LexEnd.TheVariants.{Tokens, NoToken, TooManyTokens}
-use Rattle.lex.specs.declared.Next.{Next}
-use Rattle.lex.specs.declared.Next.TheVariants.{Go, End}
 use Rattle.matches.specs.Longest.{lex_at}
 use Rattle.lex.specs.Tokens.{Token, record_of, Lexing, ends, behind_tokens, step_by, lex_from, lexing, kept, rows_of, token_table}
 use Rattle.lex.specs.Code.{next_of, token_row, table_next}
 use Rattle.lex.proofs.Steps.{skip_fits, token_fits}
+use Rattle.lex.specs.declared.LexError.{LexError}
+use Rattle.lex.specs.declared.LexError.TheVariants.{NoToken, TooManyTokens}
 
 -- ---- rows of tokens
 
@@ -64,13 +62,13 @@ module _ (at count : ℕ) (s : List ℕ) (h : 0 < length s) where
       go [] h = absurd (omega arith)
       go (b ∷ t) h = refl
 
-  pub front_none : lex_at s ≡ NoMatch → lex_from at 0 count s ≡ ends (NoToken (record { 0 = at }))
+  pub front_none : lex_at s ≡ NoMatch → lex_from at 0 count s ≡ ends (Err (NoToken (record { 0 = at })))
   front_none e = step ∙ rw e
 
   pub front_skip : (n : ℕ) → 0 < n → lex_at s ≡ Skip n → lex_from at 0 count s ≡ lex_from (at + n) 0 count (drop n s)
   front_skip n p e = step ∙ rw e (on n count p)
 
-  pub front_full : (k : TokenKind) (n : ℕ) → record_limit ≤ count → lex_at s ≡ OfKind k n → lex_from at 0 count s ≡ ends (TooManyTokens (record { 0 = at }))
+  pub front_full : (k : TokenKind) (n : ℕ) → record_limit ≤ count → lex_at s ≡ OfKind k n → lex_from at 0 count s ≡ ends (Err (TooManyTokens (record { 0 = at })))
   front_full k n f e = step ∙ rw (e, le-ltb count record_limit f)
 
   -- the token that stands at the front
@@ -93,20 +91,20 @@ pub going_start : (s old out : List ℕ) → out ≡ table_of token_width [] old
 going_start s old out e = record { tokens = []; size = refl; few = omega arith; is = e; rest = refl }
 
 -- how it ends, with the records set to zero if it is refused
-pub record Ends (s old : List ℕ) (e : LexEnd) (out : List ℕ) : Type 0 where
+pub record Ends (s old : List ℕ) (e : Result ℕ LexError) (out : List ℕ) : Type 0 where
   pub answer : e ≡ (lexing s).answer
   pub table : table_of token_width [] out ≡ token_table (lexing s) old
 
 -- what holds after a step
-abbrev pub Then : (s old : List ℕ) (at : ℕ) → Next → List ℕ → Type 0
-Then s old at (Go a c) out = Going s old a c out × (at < a) × (a ≤ length s)
-Then s old at (End e) out = Ends s old e out
+abbrev pub Then : (s old : List ℕ) (at : ℕ) → Result (ℕ × ℕ) LexError → List ℕ → Type 0
+Then s old at (Ok (a, c)) out = Going s old a c out × (at < a) × (a ≤ length s)
+Then s old at (Err e) out = Ends s old (Err e) out
 
 module _ (s old out : List ℕ) (at count : ℕ) (g : Going s old at count out) (h : at < length s) where
   some : 0 < length (drop at s)
   some = simp length-drop (omega arith)
 
-  refused : (e : LexEnd) → ((ts : List Token) → kept e ts ≡ []) → lex_from at 0 count (drop at s) ≡ ends e → Ends s old e out
+  refused : (e : Result ℕ LexError) → ((ts : List Token) → kept e ts ≡ []) → lex_from at 0 count (drop at s) ≡ ends e → Ends s old e out
   unfolding token_table
   refused e k f =
       let whole : lexing s ≡ behind_tokens g.tokens (ends e) = g.rest ∙ ap (behind_tokens g.tokens) f in
@@ -116,7 +114,7 @@ module _ (s old out : List ℕ) (at count : ℕ) (g : Going s old at count out) 
         table = ap (table_of token_width []) g.is ∙ table_again token_width [] old (rows_wide g.tokens) few ∙ rw (whole, k);
       }
 
-  taken : (k : TokenKind) (n : ℕ) → count < record_limit → lex_at (drop at s) ≡ OfKind k n → Then s old at (Go (at + n) (count + 1)) (written token_width out (count + 1) (token_row k at n))
+  taken : (k : TokenKind) (n : ℕ) → count < record_limit → lex_at (drop at s) ≡ OfKind k n → Then s old at (Ok ((at + n), (count + 1))) (written token_width out (count + 1) (token_row k at n))
   taken k n f e =
       let fits = token_fits s at h k n e in
       let len : length (take n (drop at s)) ≡ n = length-take-le n (drop at s) (omega (arith, length-drop at s, fits.1)) in
@@ -138,15 +136,15 @@ module _ (s old out : List ℕ) (at count : ℕ) (g : Going s old at count out) 
       )
 
   -- a step of the code
-  pub next_then : (r : Next) (new : List ℕ) → r ≡ next_of (lex_at (drop at s)) at count → new ≡ table_next (lex_at (drop at s)) at count out → Then s old at r new
+  pub next_then : (r : Result (ℕ × ℕ) LexError) (new : List ℕ) → r ≡ next_of (lex_at (drop at s)) at count → new ≡ table_next (lex_at (drop at s)) at count out → Then s old at r new
   next_then r new er en = rw (er, en) (go (lex_at (drop at s)) refl)
     where
-      full : (k : TokenKind) (n : ℕ) (b : Bool) → ltb count record_limit ≡ b → lex_at (drop at s) ≡ OfKind k n → Then s old at (if b then Go (at + n) (count + 1) else End (TooManyTokens (record { 0 = at }))) (if b then written token_width out (count + 1) (token_row k at n) else out)
+      full : (k : TokenKind) (n : ℕ) (b : Bool) → ltb count record_limit ≡ b → lex_at (drop at s) ≡ OfKind k n → Then s old at (if b then Ok ((at + n), (count + 1)) else (Err (TooManyTokens (record { 0 = at })))) (if b then written token_width out (count + 1) (token_row k at n) else out)
       full k n true f e = taken k n (ltb-true count record_limit f) e
-      full k n false f e = refused (TooManyTokens (record { 0 = at })) (λ ts. refl) (front_full at count (drop at s) some k n (ltb-false count record_limit f) e)
+      full k n false f e = refused (Err (TooManyTokens (record { 0 = at }))) (λ ts. refl) (front_full at count (drop at s) some k n (ltb-false count record_limit f) e)
 
       go : (l : Lexed) → lex_at (drop at s) ≡ l → Then s old at (next_of l at count) (table_next l at count out)
-      go NoMatch e = refused (NoToken (record { 0 = at })) (λ ts. refl) (front_none at count (drop at s) some e)
+      go NoMatch e = refused (Err (NoToken (record { 0 = at }))) (λ ts. refl) (front_none at count (drop at s) some e)
       go (Skip n) e =
           let fits = skip_fits s at h n e in
           let later : lex_from at 0 count (drop at s) ≡ lex_from (at + n) 0 count (drop (at + n) s) =
@@ -158,10 +156,10 @@ module _ (s old out : List ℕ) (at count : ℕ) (g : Going s old at count out) 
       go (OfKind k n) e = full k n (ltb count record_limit) refl e
 
 -- the end of the text
-pub going_done : (s old out : List ℕ) (at count : ℕ) → Going s old at count out → length s ≤ at → (Tokens count ≡ (lexing s).answer) × (out ≡ token_table (lexing s) old)
+pub going_done : (s old out : List ℕ) (at count : ℕ) → Going s old at count out → length s ≤ at → (Ok count ≡ (lexing s).answer) × (out ≡ token_table (lexing s) old)
 unfolding lex_from token_table
 going_done s old out at count g h =
-    let whole : lexing s ≡ behind_tokens g.tokens (ends (Tokens count)) = g.rest ∙ rw (drop_of_length-le s h) in
+    let whole : lexing s ≡ behind_tokens g.tokens (ends (Ok count)) = g.rest ∙ rw (drop_of_length-le s h) in
     (rw whole, g.is ∙ rw (whole, append-nil))
 
 -- a table that was cleared before

@@ -13,9 +13,9 @@ use Rattle.matches.specs.declared.Lexed.{Lexed}
 use Rattle.matches.specs.declared.Lexed.TheVariants.{Token as OfKind, Skip, NoMatch}
 use Rattle.matches.specs.Longest.{lex_at}
 use Rattle.matches.proofs.Sizes.{Sized, match_sized}
-use Rattle.lex.specs.declared.LexEnd.TheVariants.{NoToken, TooManyTokens}
-use Rattle.lex.specs.declared.Next.TheVariants.{Go, End}
 use Rattle.lex.specs.Code.{next_of, token_row, table_next}
+use Rattle.lex.specs.declared.LexError.TheVariants.{NoToken, TooManyTokens}
+use Rattle.std.specs.Prelude.{Err, Ok}
 
 -- ---- what stands at `at`, as `lex_one` said of the part from there on
 
@@ -37,16 +37,16 @@ module _ (s : List ℕ) (at : ℕ) where
 -- ---- where lexing goes on, and the table then
 
 module _ (l : Lexed) (at count : ℕ) (t : List ℕ) where
-  pub next_none : l ≡ NoMatch → (End (NoToken (record { 0 = at })) ≡ next_of l at count) × (t ≡ table_next l at count t)
+  pub next_none : l ≡ NoMatch → ((Err (NoToken (record { 0 = at }))) ≡ next_of l at count) × (t ≡ table_next l at count t)
   next_none e = rw e (refl, refl)
 
-  pub next_skip : (n : ℕ) → l ≡ Skip n → (Go (at + n) count ≡ next_of l at count) × (t ≡ table_next l at count t)
+  pub next_skip : (n : ℕ) → l ≡ Skip n → (Ok ((at + n), count) ≡ next_of l at count) × (t ≡ table_next l at count t)
   next_skip n e = rw e (refl, refl)
 
-  pub next_full : (k : TokenKind) (n : ℕ) → l ≡ OfKind k n → record_limit ≤ count → (End (TooManyTokens (record { 0 = at })) ≡ next_of l at count) × (t ≡ table_next l at count t)
+  pub next_full : (k : TokenKind) (n : ℕ) → l ≡ OfKind k n → record_limit ≤ count → ((Err (TooManyTokens (record { 0 = at }))) ≡ next_of l at count) × (t ≡ table_next l at count t)
   next_full k n e h = rw (e, le-ltb count record_limit h) (refl, refl)
 
-  pub next_token : (k : TokenKind) (n : ℕ) (new : List ℕ) → l ≡ OfKind k n → count < record_limit → new ≡ written token_width t (count + 1) (token_row k at n) → (Go (at + n) (count + 1) ≡ next_of l at count) × (new ≡ table_next l at count t)
+  pub next_token : (k : TokenKind) (n : ℕ) (new : List ℕ) → l ≡ OfKind k n → count < record_limit → new ≡ written token_width t (count + 1) (token_row k at n) → (Ok ((at + n), (count + 1)) ≡ next_of l at count) × (new ≡ table_next l at count t)
   next_token k n new e h w = rw (e, lt-ltb count record_limit h) (refl, w)
 
 -- a record written by its words

@@ -1,21 +1,20 @@
 -- One step of the code: where lexing goes on, and the table then. No rules of its own: proofs/Going.antt shows that the steps
 -- give the tokens of `lexing`.
-use Rattle.std.specs.Prelude.{ℕ, ◌+◌, List, ltb, if◌then◌else◌}
+use Rattle.std.specs.Prelude.{ℕ, ◌+◌, List, ltb, if◌then◌else◌, Err, Ok, Result}
 use Rattle.records.specs.Limits.{record_limit, token_width}
 use Rattle.records.specs.Records.{token_words}
 use Rattle.records.specs.declared.kinds.TokenKind.{TokenKind}
 use Rattle.tables.specs.Tables.{written}
 use Rattle.matches.specs.declared.Lexed.{Lexed}
 use Rattle.matches.specs.declared.Lexed.TheVariants.{Token as OfKind, Skip, NoMatch}
-use Rattle.lex.specs.declared.LexEnd.TheVariants.{NoToken, TooManyTokens}
-use Rattle.lex.specs.declared.Next.{Next}
-use Rattle.lex.specs.declared.Next.TheVariants.{Go, End}
+use Rattle.lex.specs.declared.LexError.{LexError}
+use Rattle.lex.specs.declared.LexError.TheVariants.{NoToken, TooManyTokens}
 
 -- where lexing goes on, or how it ends, by what stands at `at` with `count` tokens before it
-abbrev pub next_of : Lexed → (at count : ℕ) → Next
-next_of NoMatch at count = End (NoToken (record { 0 = at }))
-next_of (Skip n) at count = Go (at + n) count
-next_of (OfKind k n) at count = if ltb count record_limit then Go (at + n) (count + 1) else End (TooManyTokens (record { 0 = at }))
+abbrev pub next_of : Lexed → (at count : ℕ) → Result (ℕ × ℕ) LexError
+next_of NoMatch at count = Err (NoToken (record { 0 = at }))
+next_of (Skip n) at count = Ok ((at + n), count)
+next_of (OfKind k n) at count = if ltb count record_limit then Ok ((at + n), (count + 1)) else Err (TooManyTokens (record { 0 = at }))
 
 -- the words of a token's record
 abbrev pub token_row : TokenKind → (at n : ℕ) → List ℕ

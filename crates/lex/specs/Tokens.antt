@@ -1,23 +1,21 @@
 -- Document 01, Tokens and Refusals: all tokens of a source, or refusal 4 or 5, whichever is met first from the left; before
 -- them refusals 1, 2 and 3; and the token table.
-use Rattle.std.specs.Prelude.{ℕ, zero, suc, pred, ◌*◌, List, [], ◌∷◌, ◌++◌, map, length, take, ltb, if◌then◌else◌}
+use Rattle.std.specs.Prelude.{ℕ, zero, suc, pred, ◌*◌, List, [], ◌∷◌, ◌++◌, map, length, take, ltb, if◌then◌else◌, Err, Ok, Result}
 use Rattle.records.specs.Limits.{source_limit, record_limit, token_width}
 use Rattle.records.specs.Records.{token_words}
-use Rattle.records.specs.Refusals.{short_table, long_source, not_utf8, no_token, too_many_tokens, row_of, no_row}
+use Rattle.records.specs.Refusals.{short_table, long_source, not_utf8, no_token, too_many_tokens, row_of, row_by}
 use Rattle.records.specs.declared.TokenRecord.{TokenRecord}
 use Rattle.records.specs.declared.kinds.TokenKind.{TokenKind}
 use Rattle.records.specs.declared.refusals.Refusal.{Refusal}
 use Rattle.tables.specs.Tables.{table_of}
 use Rattle.text.specs.Check.{check_text}
-use Rattle.text.specs.declared.TextAnswer.{TextAnswer}
-use Rattle.text.specs.declared.TextAnswer.TheVariants.{Valid, BadAt}
 use Rattle.matches.specs.declared.Lexed.{Lexed}
 use Rattle.matches.specs.declared.Lexed.TheVariants.{Token as OfKind, Skip, NoMatch}
-use Rattle.lex.specs.declared.LexAnswer.{LexAnswer}
-use Rattle.lex.specs.declared.LexAnswer.TheVariants.{ShortTable, LongSource, NotUtf8, Ended}
-use Rattle.lex.specs.declared.LexEnd.{LexEnd}
-use Rattle.lex.specs.declared.LexEnd.TheVariants.{Tokens, NoToken, TooManyTokens}
 use Rattle.matches.specs.Longest.{lex_at}
+use Rattle.text.specs.declared.TextError.{TextError}
+use Rattle.text.specs.declared.TextError.TheVariants.{BadAt}
+use Rattle.lex.specs.declared.LexError.{LexError}
+use Rattle.lex.specs.declared.LexError.TheVariants.{LongSource, NoToken, NotUtf8, ShortTable, TooManyTokens}
 
 -- ---- tokens
 
@@ -36,9 +34,9 @@ record_of t = record { kind = t.kind; span = record { start = record { 0 = t.sta
 -- the tokens that were met, and how the lexing ended
 pub record Lexing : Type 0 where
   pub tokens : List Token
-  pub answer : LexEnd
+  pub answer : Result ℕ LexError
 
-abbrev pub ends : LexEnd → Lexing
+abbrev pub ends : Result ℕ LexError → Lexing
 ends a = record { tokens = []; answer = a }
 
 abbrev pub behind_tokens : List Token → Lexing → Lexing
@@ -47,15 +45,15 @@ behind_tokens ts l = record { tokens = ts ++ l.tokens; answer = l.answer }
 -- By what stands at the front of s, at the offset `at`, with `count` tokens before it. `skipped n` and `taken n` are what
 -- follows behind n bytes.
 abbrev pub step_by : Lexed → (s : List ℕ) → (at count : ℕ) → (skipped taken : ℕ → Lexing) → Lexing
-step_by NoMatch s at count skipped taken = ends (NoToken (record { 0 = at }))
+step_by NoMatch s at count skipped taken = ends (Err (NoToken (record { 0 = at })))
 step_by (Skip n) s at count skipped taken = skipped n
 step_by (OfKind k n) s at count skipped taken =
     if ltb count record_limit then behind_tokens (record { kind = k; start = at; text = take n s } ∷ []) (taken n)
-    else ends (TooManyTokens (record { 0 = at }))
+    else ends (Err (TooManyTokens (record { 0 = at })))
 
 -- s stands at the offset `at`, with `skip` bytes of a match still to pass and `count` tokens before it
 unfoldable pub lex_from : (at skip count : ℕ) → (s : List ℕ) → Lexing
-lex_from at skip count [] = ends (Tokens count)
+lex_from at skip count [] = ends (Ok count)
 lex_from at (suc skip) count (b ∷ s) = lex_from (suc at) skip count s
 lex_from at zero count (b ∷ s) =
     step_by (lex_at (b ∷ s)) (b ∷ s) at count (λ n. lex_from (suc at) (pred n) count s) (λ n. lex_from (suc at) (pred n) (suc count) s)
@@ -66,10 +64,9 @@ lexing source = lex_from 0 0 0 source
 -- ---- the token table
 
 -- the tokens that count: none after a refusal
-abbrev pub kept : LexEnd → List Token → List Token
-kept (Tokens n) ts = ts
-kept (NoToken at) ts = []
-kept (TooManyTokens at) ts = []
+abbrev pub kept : Result ℕ LexError → List Token → List Token
+kept (Ok n) ts = ts
+kept (Err e) ts = []
 
 -- the rows of tokens
 abbrev pub rows_of : List Token → List (List ℕ)
@@ -81,43 +78,40 @@ token_table l old = table_of token_width (rows_of (kept l.answer l.tokens)) old
 
 -- ---- the answer for any source and any lent table: refusals 1, 2 and 3 first, in this order
 
-abbrev checked : (source : List ℕ) → TextAnswer → LexAnswer
-checked source Valid = Ended (lexing source).answer
-checked source (BadAt at) = NotUtf8 (record { 0 = at })
+abbrev checked : (source : List ℕ) → Result (Unit {0}) TextError → Result ℕ LexError
+checked source (Ok _) = (lexing source).answer
+checked source (Err (BadAt at)) = Err (NotUtf8 (record { 0 = at }))
 
-unfoldable pub lex_all : (source old : List ℕ) → LexAnswer
+unfoldable pub lex_all : (source old : List ℕ) → Result ℕ LexError
 lex_all source old =
-    if ltb (length old) (record_limit * token_width) then ShortTable
-    else if ltb source_limit (length source) then LongSource
+    if ltb (length old) (record_limit * token_width) then Err ShortTable
+    else if ltb source_limit (length source) then Err LongSource
     else checked source (check_text source)
 
 -- refusal 1 changes no word; 2 to 5 set the records to zero
-abbrev pub leaves : LexAnswer → (source old : List ℕ) → List ℕ
-leaves ShortTable source old = old
-leaves LongSource source old = table_of token_width [] old
-leaves (NotUtf8 at) source old = table_of token_width [] old
-leaves (Ended e) source old = token_table (lexing source) old
+abbrev pub left_by_error : LexError → (old : List ℕ) → List ℕ
+left_by_error ShortTable old = old
+left_by_error LongSource old = table_of token_width [] old
+left_by_error (NotUtf8 at) old = table_of token_width [] old
+left_by_error (NoToken at) old = table_of token_width [] old
+left_by_error (TooManyTokens at) old = table_of token_width [] old
+
+abbrev pub leaves : Result ℕ LexError → (source old : List ℕ) → List ℕ
+leaves (Ok n) source old = token_table (lexing source) old
+leaves (Err e) source old = left_by_error e old
 
 -- ---- its row, and the count
 
-abbrev pub row_of_lex_end : LexEnd → Refusal
-row_of_lex_end (Tokens n) = no_row
-row_of_lex_end (NoToken at) = row_of (no_token at.0)
-row_of_lex_end (TooManyTokens at) = row_of (too_many_tokens at.0)
+abbrev pub row_of_lex_error : LexError → Refusal
+row_of_lex_error ShortTable = row_of short_table
+row_of_lex_error LongSource = row_of long_source
+row_of_lex_error (NotUtf8 at) = row_of (not_utf8 at.0)
+row_of_lex_error (NoToken at) = row_of (no_token at.0)
+row_of_lex_error (TooManyTokens at) = row_of (too_many_tokens at.0)
 
-abbrev pub row_of_lex : LexAnswer → Refusal
-row_of_lex ShortTable = row_of short_table
-row_of_lex LongSource = row_of long_source
-row_of_lex (NotUtf8 at) = row_of (not_utf8 at.0)
-row_of_lex (Ended e) = row_of_lex_end e
+abbrev pub row_of_lex : Result ℕ LexError → Refusal
+row_of_lex a = row_by row_of_lex_error a
 
-abbrev pub count_of_end : LexEnd → ℕ
-count_of_end (Tokens n) = n
-count_of_end (NoToken at) = 0
-count_of_end (TooManyTokens at) = 0
-
-abbrev pub count_of : LexAnswer → ℕ
-count_of ShortTable = 0
-count_of LongSource = 0
-count_of (NotUtf8 at) = 0
-count_of (Ended e) = count_of_end e
+abbrev pub count_of : Result ℕ LexError → ℕ
+count_of (Ok n) = n
+count_of (Err e) = 0

@@ -1,6 +1,6 @@
 -- What is read from a source can be listed: its listing does not go past `listing_limit`, since the texts of names, of the named nodes
 -- and of errors are each together no longer than the source.
-use Rattle.std.specs.Prelude.{if◌then◌else◌}
+use Rattle.std.specs.Prelude.{if◌then◌else◌, Err, Ok, Result}
 use Prim.Native.Nat.{ℕ, zero, suc, ◌+◌, ◌≤◌}
 use mathlib.Core.Path.{◌≡◌, refl, sym, ap, ◌∙◌}
 use mathlib.Core.Bool.{Bool, true, false}
@@ -17,10 +17,6 @@ use Rattle.records.specs.declared.NameRecord.{NameRecord}
 use Rattle.records.specs.declared.NodeRecord.{NodeRecord}
 use Rattle.records.specs.declared.ErrorRecord.{ErrorRecord}
 use Rattle.text.specs.Check.{check_text}
-use Rattle.text.specs.declared.TextAnswer.{TextAnswer}
-use Rattle.text.specs.declared.TextAnswer.TheVariants.{Valid, BadAt}
-use Rattle.lex.specs.declared.LexEnd.{LexEnd}
-use Rattle.lex.specs.declared.LexEnd.TheVariants.{Tokens, NoToken, TooManyTokens}
 use Rattle.lex.specs.Tokens.{Token, lexing}
 use Rattle.lex.proofs.Tiling.{tiling, tokens_few}
 use Rattle.literals.specs.Literals.{span_text}
@@ -48,6 +44,10 @@ use Rattle.rows.proofs.Room.{ChildrenFew, Bounded, refused_fits, listed_fits}
 use Rattle.reader.specs.Reading.{contents, Reading, read, refused, by_lines, by_tokens, by_text, reading, Tables, short_to_read, read_into}
 use Rattle.reader.proofs.Fits.{resolved_fit}
 use Rattle.listing.specs.Listing.{listing}
+use Rattle.text.specs.declared.TextError.{TextError}
+use Rattle.text.specs.declared.TextError.TheVariants.{BadAt}
+use Rattle.lex.specs.declared.LexError.{LexError}
+use Rattle.lex.specs.declared.LexError.TheVariants.{NoToken, TooManyTokens}
 
 -- ---- records are of names and nodes, one for each in their order
 
@@ -100,7 +100,7 @@ module _ (source : List ℕ) where
   no_name_law ns = refl
 
 -- THE RECORDS OF WHAT IS READ ARE FEW AND SHOW FEW BYTES
-pub contents_bounded : (source : List ℕ) (n : ℕ) (jets : List ℕ) (ls : List Line) (rest : List Token) → length source ≤ source_limit → (lexing source).answer ≡ Tokens n → lines (checks_of jets) (lexing source).tokens ≡ got ls rest
+pub contents_bounded : (source : List ℕ) (n : ℕ) (jets : List ℕ) (ls : List Line) (rest : List Token) → length source ≤ source_limit → (lexing source).answer ≡ Ok n → lines (checks_of jets) (lexing source).tokens ≡ got ls rest
     → Bounded source (name_records ls) (node_records (nodes_of ls)) (map error_record (all_errors ls))
 unfolding name_records node_records name_record
 contents_bounded source n jets ls rest short lexed e = bounded
@@ -170,19 +170,19 @@ Within source (refused r) = Unit {0}
 
 module _ (source jets : List ℕ) where
   module _ (not_long : length source ≤ source_limit) where
-    lines_within : (n : ℕ) → (lexing source).answer ≡ Tokens n → (p : Parsed (List Line)) → parsing source jets ≡ p → Within source (by_lines source (lexing source).tokens p)
+    lines_within : (n : ℕ) → (lexing source).answer ≡ Ok n → (p : Parsed (List Line)) → parsing source jets ≡ p → Within source (by_lines source (lexing source).tokens p)
     unfolding contents
     lines_within n lexed (got ls rest) e = contents_bounded source n jets ls rest not_long lexed e
     lines_within n lexed (stop x rest) e = tt
 
-    tokens_within : (a : LexEnd) → (lexing source).answer ≡ a → Within source (by_tokens source jets a)
-    tokens_within (Tokens n) e = lines_within n e (parsing source jets) refl
-    tokens_within (NoToken at) e = tt
-    tokens_within (TooManyTokens at) e = tt
+    tokens_within : (a : Result ℕ LexError) → (lexing source).answer ≡ a → Within source (by_tokens source jets a)
+    tokens_within (Ok n) e = lines_within n e (parsing source jets) refl
+    tokens_within (Err (NoToken at)) e = tt
+    tokens_within (Err (TooManyTokens at)) e = tt
 
-    text_within : (a : TextAnswer) → Within source (by_text source jets a)
-    text_within Valid = tokens_within (lexing source).answer refl
-    text_within (BadAt at) = tt
+    text_within : (a : Result (Unit {0}) TextError) → Within source (by_text source jets a)
+    text_within (Ok _) = tokens_within (lexing source).answer refl
+    text_within (Err (BadAt at)) = tt
 
   -- a source over the limit is refused
   reading_within : Within source (reading source jets)

@@ -1,28 +1,31 @@
 -- What the rows give, by the first byte. Assumes nothing.
 use Rattle.std.specs.Prelude.{if◌then◌else◌}
-use Prim.Native.Nat.{ℕ, zero, suc, ◌+◌, ◌≤◌, ◌<◌}
+use Rattle.std.proofs.lemmas.List.{drop-take, length-take-le}
+use Prim.Native.Char.{code}
+use Prim.Native.Nat.{ℕ, zero, suc, ◌+◌, ◌-◌, ◌≤◌, ◌<◌}
 use mathlib.Core.Bool.{Bool, true, false, not, ◌&&◌, ◌||◌, and-true, and-false}
 use mathlib.Core.Path.{◌≡◌, refl, sym, ap, ◌∙◌}
 use mathlib.Core.List.{List, [], ◌∷◌, ◌++◌, map}
 use mathlib.Core.Option.{Option, none, some}
 use native.Mathlib.Omega.{arith}
 use native.Mathlib.Nat.{add-zero}
-use lib.ListN.{length, length-map, take, drop, get_or, replicate}
+use lib.ListN.{length, length-map, length-drop, take, drop, get_or, replicate}
 use lib.Seq.{drop-drop}
 use lib.Dec.{eqb, leb, ltb}
-use borrow.Author.Tests.{ne_eqb, eqb-true, eqb-false, le-leb, lt-leb, lt-ltb}
+use borrow.Author.Tests.{ne_eqb, eqb-true, eqb-false, leb-true, leb-false, le-leb, lt-leb, lt-ltb}
 use Rattle.records.proofs.Choices.{and_left, and_right, within_low, within_high}
 use Rattle.records.specs.Base.{within, bytes}
 use Rattle.records.specs.TokenKind as token
+use Rattle.records.specs.declared.kinds.TokenKind.{TokenKind}
 use Rattle.classes.specs.Classes.{has, word, starts, run}
-use Rattle.classes.proofs.Laws.{run_mono, counted, starts_replicate, starts_append}
+use Rattle.classes.proofs.Laws.{run_le, run_mono, counted, starts_replicate, starts_append}
 use Rattle.classes.specs.declared.Class.{Class}
 use Rattle.classes.specs.declared.Class.TheVariants.{Byte, Bit, Digit, LowHex, AnyHex, JetPart, SymbolFirst, SymbolPart, NotLf}
 use Rattle.matches.specs.declared.Lexed.{Lexed}
 use Rattle.matches.specs.declared.Lexed.TheVariants.{Token, Skip, NoMatch}
 use Rattle.matches.specs.Rows.{Row, row_of_table, stop, other_rows, word_rows, Fixed, fixed_row, keywords, jet_row, symbol_row}
 use Rattle.matches.specs.Longest.{run_rest, match_len, best, better, lexed_as, made, len_of, lex_at}
-use Rattle.matches.specs.Code.{is_word, is_jet, named, kind_by, kind_of, keys, NotIn}
+use Rattle.matches.specs.Code.{is_word, is_jet, reads, is_text, kind, kind_by, kind_of, literal, keys, NotIn}
 
 colon : (t : List ℕ) → lex_at (58 ∷ t) ≡ (if (eqb (get_or t 0 0) 61) then (lexed_as token.assign 2) else (lexed_as token.colon 1))
 unfolding lex_at best match_len starts run
@@ -72,12 +75,12 @@ solo : (k : token.Kind) (m : ℕ) (q : Bool) → 0 < m → better (some k) (if q
 solo k m true h = better_win (some k) m NoMatch h (omega arith)
 solo k m false h = refl
 
-zero_arm : (t : List ℕ) → lex_at (48 ∷ t) ≡ (if (eqb (get_or t 0 0) 98) then (if (ltb 0 (run Bit (drop 1 t))) then (lexed_as token.bin (2 + run Bit (drop 1 t))) else NoMatch) else (if (eqb (get_or t 0 0) 120) then (if (ltb 0 (run LowHex (drop 1 t))) then (lexed_as token.hex (2 + run LowHex (drop 1 t))) else NoMatch) else NoMatch))
+zero_arm : (t : List ℕ) → lex_at (48 ∷ t) ≡ (if eqb (get_or t 0 0) 98 then literal (kind token.bin) Bit (48 ∷ t) else (if eqb (get_or t 0 0) 120 then literal (kind token.hex) LowHex (48 ∷ t) else NoMatch))
 unfolding lex_at best match_len starts
 zero_arm [] = refl
 zero_arm (b ∷ t) = go (eqb b 98) refl (eqb b 120) refl
   where
-    go : (p : Bool) → eqb b 98 ≡ p → (q : Bool) → eqb b 120 ≡ q → lex_at (48 ∷ b ∷ t) ≡ (if p then (if (ltb 0 (run Bit t)) then (lexed_as token.bin (2 + run Bit t)) else NoMatch) else (if q then (if (ltb 0 (run LowHex t)) then (lexed_as token.hex (2 + run LowHex t)) else NoMatch) else NoMatch))
+    go : (p : Bool) → eqb b 98 ≡ p → (q : Bool) → eqb b 120 ≡ q → lex_at (48 ∷ b ∷ t) ≡ (if p then literal (kind token.bin) Bit (48 ∷ b ∷ t) else (if q then literal (kind token.hex) LowHex (48 ∷ b ∷ t) else NoMatch))
     go true e q f = rw (eqb-true b 98 e) (ap (λ (m : ℕ). better (some token.bin) m NoMatch) (counted Bit 2 t) ∙ solo token.bin (2 + run Bit t) (ltb 0 (run Bit t)) (omega arith))
     go false e true f = rw (eqb-true b 120 f) (ap (λ (m : ℕ). better (some token.hex) m NoMatch) (counted LowHex 2 t) ∙ solo token.hex (2 + run LowHex t) (ltb 0 (run LowHex t)) (omega arith))
     go false e false f = rw (e, f)
@@ -191,10 +194,6 @@ no_row b t h f e =
     idle_best (other_rows ++ word_rows) [] b t
     (use_implies ((not (has SymbolFirst b)) && (avoids keys b)) (idle (other_rows ++ word_rows) b) (below 256 none_test refl b h) (rw f (not_in keys b e)))
 
--- n bytes of the kind with this number
-abbrev pub numbered : ℕ → ℕ → Lexed
-numbered k n = Token (record { 0 = k }) n
-
 -- words: what is as long as the symbol
 all_symbol : List ℕ → Bool
 all_symbol [] = true
@@ -222,6 +221,46 @@ jet_symbol b h = go (within 97 122 b) (within 48 57 b) (eqb b 95) h
     go false false true e = rw (or_true (within 65 90 b))
     go false false false e = let y : ◌≡◌ {A = ℕ} 0 1 = cc in absurd (omega arith)
 
+-- the front of a text begins as the text does, and its runs go as far
+starts_front : (f : List Class) (s : List ℕ) (n : ℕ) → length f ≤ n → starts f (take n s) ≡ starts f s
+unfolding starts
+starts_front [] s n h = refl
+starts_front (c ∷ cs) s zero h = absurd (omega arith)
+starts_front (c ∷ cs) [] (suc n) h = refl
+starts_front (c ∷ cs) (b ∷ s) (suc n) h = ap (λ q. has c b && q) (starts_front cs s n (omega arith))
+
+run_front : (c : Class) (s : List ℕ) (n : ℕ) → run c s ≤ n → run c (take n s) ≡ run c s
+unfolding run
+run_front c [] zero h = refl
+run_front c [] (suc n) h = refl
+run_front c (b ∷ s) zero h = omega arith
+run_front c (b ∷ s) (suc n) h = go (has c b) h (run_front c s n)
+  where
+    go : (q : Bool) → (if q then suc (run c s) else 0) ≤ suc n → (run c s ≤ n → run c (take n s) ≡ run c s) → (if q then suc (run c (take n s)) else 0) ≡ (if q then suc (run c s) else 0)
+    go true k f = ap suc (f (omega arith))
+    go false k f = refl
+
+-- the first n bytes of s are the word t: by bytes at their places, and by how s begins
+reads_shift : (t w : List ℕ) (b i : ℕ) → reads (b ∷ w) (suc i) t ≡ reads w i t
+reads_shift [] w b i = refl
+reads_shift (c ∷ t) w b i = ap (λ q. eqb (get_or w i 0) c && q) (reads_shift t w b (suc i))
+
+reads_starts : (t w : List ℕ) → length t ≤ length w → reads w 0 t ≡ starts (word t) w
+unfolding starts
+reads_starts [] w h = refl
+reads_starts (c ∷ t) [] h = absurd (omega arith)
+reads_starts (c ∷ t) (b ∷ w) h = ap (λ q. eqb b c && q) (reads_shift t w b 0 ∙ reads_starts t w (omega arith))
+
+word_front : (t s : List ℕ) (n : ℕ) → n ≤ length s → is_text t (take n s) ≡ is_word t n s
+unfolding is_word
+word_front t s n h = rw (length-take-le n s h) (go (eqb (length t) n) refl)
+  where
+    go : (q : Bool) → eqb (length t) n ≡ q → (q && reads (take n s) 0 t) ≡ (q && starts (word t) s)
+    go true e =
+        let k : length t ≡ n = eqb-true (length t) n e in
+        reads_starts t (take n s) (omega (arith, length-take-le n s h)) ∙ starts_front (word t) s n (omega (arith, length-map t Byte))
+    go false e = refl
+
 module _ (s : List ℕ) (N : ℕ) (pos : 0 < N) (is : run SymbolPart s ≡ N) where
   word_le : (w : List ℕ) (k : Option token.Kind) → all_symbol w ≡ true → match_len (row_of_table k (word w) stop) s ≤ N
   unfolding match_len
@@ -231,17 +270,17 @@ module _ (s : List ℕ) (N : ℕ) (pos : 0 < N) (is : run SymbolPart s ≡ N) wh
       go true e = omega (arith, word_run w s a e, is, length-map w Byte)
       go false e = omega arith
 
-  word_is : (w : List ℕ) (k : Option token.Kind) → eqb (match_len (row_of_table k (word w) stop) s) N ≡ is_word w N s
+  word_is : (w : List ℕ) (k : Option token.Kind) → eqb (match_len (row_of_table k (word w) stop) s) N ≡ is_text w (take N s)
   unfolding match_len is_word
-  word_is w k = go (starts (word w) s)
+  word_is w k = go (starts (word w) s) ∙ sym (word_front w s N (omega (arith, is, run_le SymbolPart s)))
     where
       go : (p : Bool) → eqb (if p then (length (word w) + 0) else 0) N ≡ ((eqb (length w) N) && p)
       go true = rw (length-map w Byte, add-zero) (sym (and-true (eqb (length w) N)))
       go false = ne_eqb 0 N (omega arith) ∙ sym (and-false (eqb (length w) N))
 
-  kind_step : (k : token.Kind) (j m : ℕ) (q : Bool) → m ≤ N → eqb m N ≡ q → better (some k) m (numbered j N) ≡ numbered (if q then token.number k else j) N
-  kind_step k j m true l e = let z = eqb-true m N e in better_win (some k) m (numbered j N) (omega arith) (omega arith) ∙ ap (lexed_as k) z
-  kind_step k j m false l e = better_lose (some k) m (numbered j N) (omega (arith, eqb-false m N e))
+  kind_step : (k : token.Kind) (j : TokenKind) (m : ℕ) (q : Bool) → m ≤ N → eqb m N ≡ q → better (some k) m (Token j N) ≡ Token (if q then kind k else j) N
+  kind_step k j m true l e = let z = eqb-true m N e in better_win (some k) m (Token j N) (omega arith) (omega arith) ∙ ap (lexed_as k) z
+  kind_step k j m false l e = better_lose (some k) m (Token j N) (omega (arith, eqb-false m N e))
 
   -- the length of a jet, by the run after `jet_`
   jet_len : match_len jet_row s ≡ (if ((starts (word (bytes "jet_")) s) && (ltb 0 (run JetPart (drop 4 s)))) then (4 + run JetPart (drop 4 s)) else 0)
@@ -261,22 +300,41 @@ module _ (s : List ℕ) (N : ℕ) (pos : 0 < N) (is : run SymbolPart s ≡ N) wh
       go true e false = omega arith
       go false e q = omega arith
 
-  jet_is : eqb (match_len jet_row s) N ≡ is_jet N s
-  unfolding is_jet
-  jet_is = rw jet_len (go (starts (word (bytes "jet_")) s) (run JetPart (drop 4 s)))
+  -- the symbol is a jet just if the row's match is as long
+  jet_is : eqb (match_len jet_row s) N ≡ is_jet (take N s)
+  unfolding is_jet all_symbol
+  jet_is = rw jet_len (by (leb 4 N) refl)
     where
-      go : (p : Bool) (r : ℕ) → eqb (if (p && (ltb 0 r)) then (4 + r) else 0) N ≡ ((p && (leb 5 N)) && (eqb (4 + r) N))
-      go false r = ne_eqb 0 N (omega arith)
-      go true zero = ne_eqb 0 N (omega arith) ∙ sym (short (eqb 4 N) refl)
+      len : length (take N s) ≡ N
+      len = length-take-le N s (omega (arith, is, run_le SymbolPart s))
+
+      rest : length (drop 4 (take N s)) ≡ N - 4
+      rest = length-drop 4 (take N s) ∙ ap (λ n. n - 4) len
+
+      -- behind `jet_` the run is no longer than the symbol, so it is that of the symbol alone
+      runs : starts (word (bytes "jet_")) s ≡ true → 4 ≤ N → run JetPart (drop 4 (take N s)) ≡ run JetPart (drop 4 s)
+      runs e h =
+          let d : drop 4 (take (4 + (N - 4)) s) ≡ take (N - 4) (drop 4 s) = drop-take 4 (N - 4) s in
+          let n : 4 + (N - 4) ≡ N = omega arith in
+          rw (← n, d) (run_front JetPart (drop 4 s) (N - 4) (omega (arith, word_run (bytes "jet_") s refl e, run_mono JetPart SymbolPart jet_symbol (drop 4 s))))
+
+      same : (r : ℕ) → 4 ≤ N → eqb (if ltb 0 r then 4 + r else 0) N ≡ (ltb 0 (N - 4) && eqb r (N - 4))
+      same r h = grind arith
+
+      go : (p : Bool) → starts (word (bytes "jet_")) s ≡ p → 4 ≤ N → eqb (if p && ltb 0 (run JetPart (drop 4 s)) then 4 + run JetPart (drop 4 s) else 0) N ≡ ((p && ltb 0 (length (drop 4 (take N s)))) && eqb (run JetPart (drop 4 (take N s))) (length (drop 4 (take N s))))
+      go true e h = rw (rest, runs e h) (same (run JetPart (drop 4 s)) h)
+      go false e h = ne_eqb 0 N (omega arith)
+
+      by : (q : Bool) → leb 4 N ≡ q → eqb (if starts (word (bytes "jet_")) s && ltb 0 (run JetPart (drop 4 s)) then 4 + run JetPart (drop 4 s) else 0) N ≡ is_jet (take N s)
+      by true e =
+          let h : 4 ≤ N = leb-true 4 N e in
+          let r : reads (take N s) 0 (bytes "jet_") ≡ starts (word (bytes "jet_")) s = reads_starts (bytes "jet_") (take N s) (omega (arith, len)) ∙ starts_front (word (bytes "jet_")) s N h in
+          rw (len, e, r) (go (starts (word (bytes "jet_")) s) refl h)
+      by false e = rw (len, e) (short (starts (word (bytes "jet_")) s) refl)
         where
-          short : (q : Bool) → eqb 4 N ≡ q → ((leb 5 N) && q) ≡ false
-          short true e = rw (lt-leb 5 N (omega (arith, eqb-true 4 N e)))
-          short false e = and-false (leb 5 N)
-      go true (suc r) = rw (lt-ltb 0 (suc r) (omega arith)) (long (eqb (4 + suc r) N) refl)
-        where
-          long : (q : Bool) → eqb (4 + suc r) N ≡ q → q ≡ ((leb 5 N) && q)
-          long true e = rw (le-leb 5 N (omega (arith, eqb-true (4 + suc r) N e)))
-          long false e = sym (and-false (leb 5 N))
+          short : (p : Bool) → starts (word (bytes "jet_")) s ≡ p → eqb (if p && ltb 0 (run JetPart (drop 4 s)) then 4 + run JetPart (drop 4 s) else 0) N ≡ false
+          short true f = absurd (omega (arith, word_run (bytes "jet_") s refl f, leb-false 4 N e))
+          short false f = ne_eqb 0 N (omega arith)
 
 -- every word is of bytes of symbols
 wordy : List Fixed → Bool
@@ -284,15 +342,15 @@ wordy [] = true
 wordy (f ∷ fs) = all_symbol f.text && wordy fs
 
 module _ (s : List ℕ) (N : ℕ) (pos : 0 < N) (is : run SymbolPart s ≡ N) (sy : match_len symbol_row s ≡ N) where
-  words : (fs : List Fixed) → wordy fs ≡ true → best (map fixed_row fs ++ (jet_row ∷ symbol_row ∷ [])) s ≡ numbered (kind_by fs N s (if is_jet N s then token.number token.jet else token.number token.symbol)) N
-  unfolding best wordy named
+  words : (fs : List Fixed) → wordy fs ≡ true → best (map fixed_row fs ++ (jet_row ∷ symbol_row ∷ [])) s ≡ Token (kind_by fs (take N s) (if is_jet (take N s) then kind token.jet else kind token.symbol)) N
+  unfolding best wordy
   words [] e =
       ap (λ (m : ℕ). better (some token.jet) (match_len jet_row s) (better (some token.symbol) m NoMatch)) sy
       ∙ ap (better (some token.jet) (match_len jet_row s)) (better_win (some token.symbol) N NoMatch pos (omega arith))
-      ∙ kind_step s N pos is token.jet (token.number token.symbol) (match_len jet_row s) (is_jet N s) (jet_le s N pos is) (jet_is s N pos is)
+      ∙ kind_step s N pos is token.jet (kind token.symbol) (match_len jet_row s) (is_jet (take N s)) (jet_le s N pos is) (jet_is s N pos is)
   words (f ∷ fs) e =
       ap (better (some f.kind) (match_len (fixed_row f) s)) (words fs (and_right (all_symbol f.text) _ e))
-      ∙ kind_step s N pos is f.kind _ (match_len (fixed_row f) s) (is_word f.text N s)
+      ∙ kind_step s N pos is f.kind _ (match_len (fixed_row f) s) (is_text f.text (take N s))
       (word_le s N pos is f.text (some f.kind) (and_left (all_symbol f.text) _ e))
       (word_is s N pos is f.text (some f.kind))
 
@@ -308,28 +366,77 @@ symbol_len : (b : ℕ) (t : List ℕ) → has SymbolFirst b ≡ true → match_l
 unfolding match_len starts
 symbol_len b t f = rw f
 
+-- a symbol lies in the text
+pub symbol_inside : (s : List ℕ) (n : ℕ) → 0 < length s → n ≡ run SymbolPart (drop 1 s) → length (take (1 + n) s) ≡ 1 + n
+symbol_inside s n h e = length-take-le (1 + n) s (omega (arith, run_le SymbolPart (drop 1 s), length-drop 1 s))
+
 -- the arm of words
-word_arm : (b : ℕ) (t : List ℕ) → b < 256 → has SymbolFirst b ≡ true → NotIn keys b → lex_at (b ∷ t) ≡ numbered (kind_of (1 + run SymbolPart t) (b ∷ t)) (1 + run SymbolPart t)
+word_arm : (b : ℕ) (t : List ℕ) → b < 256 → has SymbolFirst b ≡ true → NotIn keys b → lex_at (b ∷ t) ≡ Token (kind_of (take (1 + run SymbolPart t) (b ∷ t))) (1 + run SymbolPart t)
 unfolding wordy all_symbol kind_of
 word_arm b t h f e =
     first b t h f e
     ∙ words (b ∷ t) (1 + run SymbolPart t) (omega arith) (symbol_run b t (first_symbol b h f)) (symbol_len b t f) keywords refl
 
+-- ---- the bytes that are a token or a skip whatever comes after them, and what each is
+abbrev pub alone : List (ℕ × Lexed)
+alone =
+    (code " ", Skip 1)
+    ∷ (code "\t", Skip 1)
+    ∷ (code "\r", Skip 1)
+    ∷ (code "\n", Skip 1)
+    ∷ (code "(", lexed_as token.lparen 1)
+    ∷ (code ")", lexed_as token.rparen 1)
+    ∷ (code "+", lexed_as token.plus 1)
+    ∷ (code "*", lexed_as token.star 1)
+    ∷ (code "}", lexed_as token.rbrace 1)
+    ∷ (code "?", lexed_as token.question 1)
+    ∷ (code "1", lexed_as token.one 1)
+    ∷ []
+
+-- what a byte of the list is, or else l
+abbrev pub by_byte : List (ℕ × Lexed) → ℕ → Lexed → Lexed
+by_byte [] b l = l
+by_byte (p ∷ ps) b l = if eqb b p.0 then p.1 else by_byte ps b l
+
+-- the list says what the rows give
+abbrev Stands : List (ℕ × Lexed) → Type 0
+Stands [] = Unit {0}
+Stands (p ∷ ps) = ((t : List ℕ) → lex_at (p.0 ∷ t) ≡ p.1) × Stands ps
+
+alone_stands : Stands alone
+unfolding lex_at best match_len starts
+alone_stands = (λ t. refl, (λ t. refl, (λ t. refl, (λ t. refl, (λ t. refl, (λ t. refl, (λ t. refl, (λ t. refl, (λ t. refl, (λ t. refl, (λ t. refl, tt)))))))))))
+
+alone_by : (ps : List (ℕ × Lexed)) → Stands ps → (b : ℕ) (t : List ℕ) → lex_at (b ∷ t) ≡ by_byte ps b (lex_at (b ∷ t))
+alone_by [] h b t = refl
+alone_by (p ∷ ps) h b t = go (eqb b p.0) refl (alone_by ps h.1 b t)
+  where
+    go : (q : Bool) → eqb b p.0 ≡ q → lex_at (b ∷ t) ≡ by_byte ps b (lex_at (b ∷ t)) → lex_at (b ∷ t) ≡ (if q then p.1 else by_byte ps b (lex_at (b ∷ t)))
+    go true e r = rw (eqb-true b p.0 e) (h.0 t)
+    go false e r = r
+
 -- ---- the same in the terms of the code, which has read the first byte and the one after it
 
 module _ (s : List ℕ) (h : 0 < length s) where
-  pub lex_byte : (k : ℕ) (x : Lexed) → ((t : List ℕ) → lex_at (k ∷ t) ≡ x) → get_or s 0 0 ≡ k → lex_at s ≡ x
+  lex_byte : (k : ℕ) (x : List ℕ → Lexed) → ((t : List ℕ) → lex_at (k ∷ t) ≡ x (k ∷ t)) → get_or s 0 0 ≡ k → lex_at s ≡ x s
   lex_byte k x f e = go s h e
     where
-      go : (s : List ℕ) → 0 < length s → get_or s 0 0 ≡ k → lex_at s ≡ x
+      go : (s : List ℕ) → 0 < length s → get_or s 0 0 ≡ k → lex_at s ≡ x s
       go [] h e = absurd (omega arith)
       go (a ∷ t) h e = rw e (f t)
 
+  pub lex_alone : lex_at s ≡ by_byte alone (get_or s 0 0) (lex_at s)
+  lex_alone = go s h
+    where
+      go : (s : List ℕ) → 0 < length s → lex_at s ≡ by_byte alone (get_or s 0 0) (lex_at s)
+      go [] h = absurd (omega arith)
+      go (a ∷ t) h = alone_by alone alone_stands a t
+
   -- a byte that begins a word, or nothing
-  pub lex_word : get_or s 0 0 < 256 → has SymbolFirst (get_or s 0 0) ≡ true → NotIn keys (get_or s 0 0) → lex_at s ≡ numbered (kind_of (1 + run SymbolPart (drop 1 s)) s) (1 + run SymbolPart (drop 1 s))
+  pub lex_word : get_or s 0 0 < 256 → has SymbolFirst (get_or s 0 0) ≡ true → NotIn keys (get_or s 0 0) → lex_at s ≡ Token (kind_of (take (1 + run SymbolPart (drop 1 s)) s)) (1 + run SymbolPart (drop 1 s))
   lex_word = go s h
     where
-      go : (s : List ℕ) → 0 < length s → get_or s 0 0 < 256 → has SymbolFirst (get_or s 0 0) ≡ true → NotIn keys (get_or s 0 0) → lex_at s ≡ numbered (kind_of (1 + run SymbolPart (drop 1 s)) s) (1 + run SymbolPart (drop 1 s))
+      go : (s : List ℕ) → 0 < length s → get_or s 0 0 < 256 → has SymbolFirst (get_or s 0 0) ≡ true → NotIn keys (get_or s 0 0) → lex_at s ≡ Token (kind_of (take (1 + run SymbolPart (drop 1 s)) s)) (1 + run SymbolPart (drop 1 s))
       go [] h k f e = absurd (omega arith)
       go (a ∷ t) h k f e = word_arm a t k f e
 
@@ -340,26 +447,18 @@ module _ (s : List ℕ) (h : 0 < length s) where
       go [] h k f e = absurd (omega arith)
       go (a ∷ t) h k f e = no_row a t k f e
 
-  -- by what the rows give behind the first byte k, whose next is b
-  module _ (b : ℕ) (eb : b ≡ get_or s 1 0) where
-    behind : (k : ℕ) (x : ℕ → List ℕ → Lexed) → ((t : List ℕ) → lex_at (k ∷ t) ≡ x (get_or t 0 0) (k ∷ t)) → get_or s 0 0 ≡ k → lex_at s ≡ x b s
-    behind k x f e = go s h eb e
-      where
-        go : (s : List ℕ) → 0 < length s → b ≡ get_or s 1 0 → get_or s 0 0 ≡ k → lex_at s ≡ x b s
-        go [] h eb e = absurd (omega arith)
-        go (a ∷ t) h eb e = rw (e, eb) (f t)
+  -- a byte that the next one or two decide
+  pub lex_colon : get_or s 0 0 ≡ 58 → lex_at s ≡ (if eqb (get_or s 1 0) 61 then lexed_as token.assign 2 else lexed_as token.colon 1)
+  lex_colon e = lex_byte 58 (λ s. if eqb (get_or s 1 0) 61 then lexed_as token.assign 2 else lexed_as token.colon 1) colon e
 
-    pub lex_colon : get_or s 0 0 ≡ 58 → lex_at s ≡ (if eqb b 61 then lexed_as token.assign 2 else lexed_as token.colon 1)
-    lex_colon e = behind 58 (λ b s. if eqb b 61 then lexed_as token.assign 2 else lexed_as token.colon 1) colon e
+  pub lex_dash : get_or s 0 0 ≡ 45 → lex_at s ≡ (if eqb (get_or s 1 0) 62 then lexed_as token.arrow 2 else (if eqb (get_or s 1 0) 45 then Skip (2 + run NotLf (drop 2 s)) else lexed_as token.symbol (1 + run SymbolPart (drop 1 s))))
+  lex_dash e = lex_byte 45 (λ s. if eqb (get_or s 1 0) 62 then lexed_as token.arrow 2 else (if eqb (get_or s 1 0) 45 then Skip (2 + run NotLf (drop 2 s)) else lexed_as token.symbol (1 + run SymbolPart (drop 1 s)))) dash e
 
-    pub lex_dash : get_or s 0 0 ≡ 45 → lex_at s ≡ (if eqb b 62 then lexed_as token.arrow 2 else (if eqb b 45 then Skip (2 + run NotLf (drop 2 s)) else lexed_as token.symbol (1 + run SymbolPart (drop 1 s))))
-    lex_dash e = behind 45 (λ b s. if eqb b 62 then lexed_as token.arrow 2 else (if eqb b 45 then Skip (2 + run NotLf (drop 2 s)) else lexed_as token.symbol (1 + run SymbolPart (drop 1 s)))) dash e
+  pub lex_zero : get_or s 0 0 ≡ 48 → lex_at s ≡ (if eqb (get_or s 1 0) 98 then literal (kind token.bin) Bit s else (if eqb (get_or s 1 0) 120 then literal (kind token.hex) LowHex s else NoMatch))
+  lex_zero e = lex_byte 48 (λ s. if eqb (get_or s 1 0) 98 then literal (kind token.bin) Bit s else (if eqb (get_or s 1 0) 120 then literal (kind token.hex) LowHex s else NoMatch)) zero_arm e
 
-    pub lex_zero : get_or s 0 0 ≡ 48 → lex_at s ≡ (if eqb b 98 then (if ltb 0 (run Bit (drop 2 s)) then lexed_as token.bin (2 + run Bit (drop 2 s)) else NoMatch) else (if eqb b 120 then (if ltb 0 (run LowHex (drop 2 s)) then lexed_as token.hex (2 + run LowHex (drop 2 s)) else NoMatch) else NoMatch))
-    lex_zero e = behind 48 (λ b s. if eqb b 98 then (if ltb 0 (run Bit (drop 2 s)) then lexed_as token.bin (2 + run Bit (drop 2 s)) else NoMatch) else (if eqb b 120 then (if ltb 0 (run LowHex (drop 2 s)) then lexed_as token.hex (2 + run LowHex (drop 2 s)) else NoMatch) else NoMatch)) zero_arm e
+  pub lex_two : get_or s 0 0 ≡ 50 → lex_at s ≡ (if eqb (get_or s 1 0) 94 && within 49 57 (get_or s 2 0) then lexed_as token.power (2 + run Digit (drop 2 s)) else lexed_as token.two 1)
+  lex_two e = lex_byte 50 (λ s. if eqb (get_or s 1 0) 94 && within 49 57 (get_or s 2 0) then lexed_as token.power (2 + run Digit (drop 2 s)) else lexed_as token.two 1) two_arm e
 
-    pub lex_two : (d : ℕ) → d ≡ get_or s 2 0 → get_or s 0 0 ≡ 50 → lex_at s ≡ (if eqb b 94 && within 49 57 d then lexed_as token.power (2 + run Digit (drop 2 s)) else lexed_as token.two 1)
-    lex_two d ed e = behind 50 (λ b s. if eqb b 94 && within 49 57 (get_or s 2 0) then lexed_as token.power (2 + run Digit (drop 2 s)) else lexed_as token.two 1) two_arm e ∙ rw ed
-
-    pub lex_hash : get_or s 0 0 ≡ 35 → lex_at s ≡ (if eqb b 123 then lexed_as token.hash_brace 2 else (if leb 64 (run AnyHex (drop 1 s)) then lexed_as token.cmr 65 else NoMatch))
-    lex_hash e = behind 35 (λ b s. if eqb b 123 then lexed_as token.hash_brace 2 else (if leb 64 (run AnyHex (drop 1 s)) then lexed_as token.cmr 65 else NoMatch)) hash e
+  pub lex_hash : get_or s 0 0 ≡ 35 → lex_at s ≡ (if eqb (get_or s 1 0) 123 then lexed_as token.hash_brace 2 else (if leb 64 (run AnyHex (drop 1 s)) then lexed_as token.cmr 65 else NoMatch))
+  lex_hash e = lex_byte 35 (λ s. if eqb (get_or s 1 0) 123 then lexed_as token.hash_brace 2 else (if leb 64 (run AnyHex (drop 1 s)) then lexed_as token.cmr 65 else NoMatch)) hash e

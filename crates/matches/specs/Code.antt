@@ -1,41 +1,50 @@
--- How the code finds what the rows give: by the first byte, and the kind of n bytes that are a symbol by the keywords, then
--- as a jet. No rules of their own: proofs/Arms.antt shows that they give the rows' answer.
-use Rattle.std.specs.Prelude.{ℕ, ◌+◌, ◌<◌, Bool, ◌&&◌, ◌≡◌, List, [], ◌∷◌, length, take, drop, get_or, eqb, leb, if◌then◌else◌}
+-- How the code finds what the rows give: by the first byte, and the kind of a symbol by the keywords, then as a jet. No
+-- rules of their own: proofs/Arms.antt shows that they give the rows' answer.
+use Rattle.std.specs.Prelude.{ℕ, suc, ◌+◌, ◌<◌, Bool, true, ◌&&◌, ◌≡◌, List, [], ◌∷◌, length, drop, get_or, eqb, leb, ltb, if◌then◌else◌}
 use Prim.Native.Char.{Char, code}
 use Rattle.records.specs.Base.{bytes}
 use Rattle.records.specs.TokenKind as token
 use Rattle.classes.specs.Classes.{word, starts, run}
+use Rattle.classes.specs.declared.Class.{Class}
 use Rattle.classes.specs.declared.Class.TheVariants.{JetPart}
+use Rattle.records.specs.declared.kinds.TokenKind.{TokenKind}
+use Rattle.matches.specs.declared.Lexed.{Lexed}
+use Rattle.matches.specs.declared.Lexed.TheVariants.{Token, NoMatch}
 use Rattle.matches.specs.Rows.{Fixed, keywords}
 
 -- the first n bytes of s are the word w
 unfoldable pub is_word : (w : List ℕ) → (n : ℕ) → (s : List ℕ) → Bool
 is_word w n s = eqb (length w) n && starts (word w) s
 
--- the first n bytes of s are a jet
-unfoldable pub is_jet : (n : ℕ) → (s : List ℕ) → Bool
-is_jet n s = starts (word (bytes "jet_")) s && leb 5 n && eqb (4 + run JetPart (drop 4 s)) n
+-- the bytes of t stand in w from i on
+abbrev pub reads : (w : List ℕ) → (i : ℕ) → (t : List ℕ) → Bool
+reads w i [] = true
+reads w i (c ∷ t) = eqb (get_or w i 0) c && reads w (suc i) t
 
--- the kind's number k if the first n bytes of s are the word w, else the number other
-unfoldable pub named : (w : List ℕ) → (k n : ℕ) → (s : List ℕ) → (other : ℕ) → ℕ
-named w k n s other = if is_word w n s then k else other
+-- w is the text t: by the length, then byte by byte
+abbrev pub is_text : (t w : List ℕ) → Bool
+is_text t w = eqb (length t) (length w) && reads w 0 t
 
-abbrev pub kind_by : List Fixed → (n : ℕ) → (s : List ℕ) → (other : ℕ) → ℕ
-kind_by [] n s other = other
-kind_by (f ∷ fs) n s other = named f.text (token.number f.kind) n s (kind_by fs n s other)
+-- w is `jet_` and a name
+unfoldable pub is_jet : (w : List ℕ) → Bool
+is_jet w = leb 4 (length w) && reads w 0 (bytes "jet_") && ltb 0 (length (drop 4 w)) && eqb (run JetPart (drop 4 w)) (length (drop 4 w))
 
--- by the keywords in two halves
-abbrev half : ℕ
-half = 8
+-- a kind as the code has it
+abbrev pub kind : token.Kind → TokenKind
+kind k = record { 0 = token.number k }
 
-unfoldable pub early_kind : (n : ℕ) → (s : List ℕ) → (other : ℕ) → ℕ
-early_kind = kind_by (take half keywords)
+-- the first kind whose text is the word w, else the kind other
+abbrev pub kind_by : List Fixed → (w : List ℕ) → (other : TokenKind) → TokenKind
+kind_by [] w other = other
+kind_by (f ∷ fs) w other = if is_text f.text w then kind f.kind else kind_by fs w other
 
-unfoldable pub late_kind : (n : ℕ) → (s : List ℕ) → (other : ℕ) → ℕ
-late_kind = kind_by (drop half keywords)
+-- a symbol that is no keyword is a jet or just a symbol
+unfoldable pub kind_of : (w : List ℕ) → TokenKind
+kind_of w = kind_by keywords w (if is_jet w then kind token.jet else kind token.symbol)
 
-unfoldable pub kind_of : (n : ℕ) → (s : List ℕ) → ℕ
-kind_of n s = kind_by keywords n s (if is_jet n s then token.number token.jet else token.number token.symbol)
+-- a literal of a kind: two bytes, then the digits of the class, at least one
+abbrev pub literal : TokenKind → Class → (s : List ℕ) → Lexed
+literal k c s = if ltb 0 (run c (drop 2 s)) then Token k (2 + run c (drop 2 s)) else NoMatch
 
 -- s is not empty and begins with the character
 abbrev pub Begins : Char → (s : List ℕ) → Type 0

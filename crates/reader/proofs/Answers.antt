@@ -1,5 +1,5 @@
 -- The reading as the code answers it: by the lexer's answer; and the lists of records as the layers below have them.
-use Rattle.std.specs.Prelude.{if◌then◌else◌}
+use Rattle.std.specs.Prelude.{if◌then◌else◌, Err, Ok, Result}
 use Prim.Native.Nat.{ℕ, suc, ◌*◌, ◌≤◌}
 use mathlib.Core.Bool.{Bool, true, false}
 use mathlib.Core.Path.{◌≡◌, refl, sym, ap}
@@ -12,11 +12,7 @@ use Rattle.records.specs.Records.{token_words, error_words}
 use Rattle.records.specs.Refusals as refusal
 use Rattle.tables.specs.Tables.{table_of}
 use Rattle.text.specs.Check.{check_text}
-use Rattle.text.specs.declared.TextAnswer.{TextAnswer}
-use Rattle.text.specs.declared.TextAnswer.TheVariants.{Valid, BadAt}
 use Rattle.lex.specs.Tokens.{Token, record_of, lex_all}
-use Rattle.lex.specs.declared.LexAnswer.{LexAnswer}
-use Rattle.lex.specs.declared.LexAnswer.TheVariants.{ShortTable, LongSource, NotUtf8, Ended}
 use Rattle.checks.specs.Checks.{refused_at}
 use Rattle.checks.specs.declared.Fault.{Fault}
 use Rattle.checks.specs.declared.Fault.TheVariants.{ParseFailed, BadWordLength, EntropyInsufficient, EntropyTooMuch, UnknownJet, Bad2ExpNumber, NumberOutOfRange, TooDeep}
@@ -30,6 +26,10 @@ use Rattle.walk.specs.Nodes.{walked, nodes_of, node_records_from, node_records, 
 use Rattle.errors.specs.Errors.{all_errors}
 use Rattle.ends.specs.Rows.{row_of_read, counts_of_read}
 use Rattle.reader.specs.Reading.{contents, Reading, read, refused, nothing, by_tokens, reading, Tables, eight, short_to_read_by, read_into, holding, after_refusal, row_of_reading, counts_of_contents, counts_of_reading, faulty, refusal_answer, answer_of}
+use Rattle.text.specs.declared.TextError.{TextError}
+use Rattle.text.specs.declared.TextError.TheVariants.{BadAt}
+use Rattle.lex.specs.declared.LexError.{LexError}
+use Rattle.lex.specs.declared.LexError.TheVariants.{LongSource, NotUtf8, ShortTable}
 
 -- ---- an answer says the row and the counts of its reading
 
@@ -80,11 +80,11 @@ fault_left at TooDeep old = refl
 
 -- ---- by the lexer's answer
 
-abbrev pub reading_by : (source jets : List ℕ) → LexAnswer → Reading
-reading_by source jets ShortTable = refused refusal.short_table
-reading_by source jets LongSource = refused refusal.long_source
-reading_by source jets (NotUtf8 at) = refused (refusal.not_utf8 at.0)
-reading_by source jets (Ended e) = by_tokens source jets e
+abbrev pub reading_by : (source jets : List ℕ) → Result ℕ LexError → Reading
+reading_by source jets (Err ShortTable) = refused refusal.short_table
+reading_by source jets (Err LongSource) = refused refusal.long_source
+reading_by source jets (Err (NotUtf8 at)) = refused (refusal.not_utf8 at.0)
+reading_by source jets (e) = by_tokens source jets e
 
 -- a table of tokens that has room
 lexer_reading : (source jets ts : List ℕ) → record_limit * token_width ≤ length ts → reading_by source jets (lex_all source ts) ≡ reading source jets
@@ -94,17 +94,17 @@ lexer_reading source jets ts room = go (ltb source_limit (length source)) refl (
     roomy : ltb (length ts) (record_limit * token_width) ≡ false
     roomy = le-ltb (length ts) (record_limit * token_width) room
 
-    go : (b : Bool) → ltb source_limit (length source) ≡ b → (t : TextAnswer) → check_text source ≡ t → reading_by source jets (lex_all source ts) ≡ reading source jets
+    go : (b : Bool) → ltb source_limit (length source) ≡ b → (t : Result (Unit {0}) TextError) → check_text source ≡ t → reading_by source jets (lex_all source ts) ≡ reading source jets
     go true h t k = rw (roomy, h)
-    go false h Valid k = rw (roomy, h, k)
-    go false h (BadAt at) k = rw (roomy, h, k)
+    go false h (Ok _) k = rw (roomy, h, k)
+    go false h (Err (BadAt at)) k = rw (roomy, h, k)
 
 pub by_lexer : (source jets ts ls es ty ns xs rs ws : List ℕ) → short_to_read_by (length ns) (length xs) (length rs) (length ws) ≡ false
     → read_into source jets (eight ts ls es ty ns xs rs ws) ≡ reading_by source jets (ast.lex_answer source (ast.tables ts ls es ty))
 unfolding read_into
 by_lexer source jets ts ls es ty ns xs rs ws room = rw room (go (ast.short_to_parse (ast.tables ts ls es ty)) refl)
   where
-    go : (b : Bool) → ast.short_to_parse (ast.tables ts ls es ty) ≡ b → (if b then refused refusal.short_table else reading source jets) ≡ reading_by source jets (if b then ShortTable else lex_all source ts)
+    go : (b : Bool) → ast.short_to_parse (ast.tables ts ls es ty) ≡ b → (if b then refused refusal.short_table else reading source jets) ≡ reading_by source jets (if b then Err ShortTable else lex_all source ts)
     go true e = refl
     go false e = sym (lexer_reading source jets ts (has_room (length ts) (length ls) (length es) (length ty) e).0)
 

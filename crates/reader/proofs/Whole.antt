@@ -10,9 +10,6 @@ use borrow.Author.Tests.{ltb-false}
 use Rattle.records.specs.Limits.{record_limit, name_width, node_width, error_width, work_width}
 use Rattle.tables.specs.Tables.{table_of}
 use Rattle.lex.specs.Tokens.{Token, lexing}
-use Rattle.lex.specs.declared.LexAnswer.{LexAnswer}
-use Rattle.lex.specs.declared.LexAnswer.TheVariants.{ShortTable, LongSource, NotUtf8, Ended}
-use Rattle.lex.specs.declared.LexEnd.TheVariants.{Tokens, NoToken, TooManyTokens}
 use Rattle.lex.proofs.Tiling.{tiling, tokens_lie, tokens_few}
 use Rattle.checks.specs.Checks.{checks_of}
 use Rattle.grammar.specs.Tree.{Line}
@@ -37,6 +34,9 @@ use Rattle.ends.specs.declared.ReadAnswer.TheVariants.{Read, Refused}
 use Rattle.reader.proofs.Answers.{fault_answer, fault_left, reading_by, by_lexer, counts_held, tables_held}
 use Rattle.reader.specs.Reading.{Reading, Tables, eight, short_to_read_by, nothing, holding, read_into, read_tables, answer_of}
 use Rattle.reader.specs.Steps.{next_by, Resolves}
+use Rattle.lex.specs.declared.LexError.{LexError}
+use Rattle.lex.specs.declared.LexError.TheVariants.{LongSource, NoToken, NotUtf8, ShortTable, TooManyTokens}
+use Rattle.std.specs.Prelude.{Err, Ok, Result}
 
 -- ---- room
 
@@ -62,37 +62,37 @@ module _ (source jets ts ls es ty ns xs rs ws : List ℕ) where
   abbrev four : ast.ParserTables
   four = tables ts ls es ty
 
-  pub too_short : short_to_read_by (length ns) (length xs) (length rs) (length ws) ≡ true → (Refused (NotLexed ShortTable) ≡ answer_of (read_into source jets old)) × (eight ts ls es ty ns xs rs ws ≡ read_tables (read_into source jets old) old)
+  pub too_short : short_to_read_by (length ns) (length xs) (length rs) (length ws) ≡ true → (Refused (NotLexed (Err ShortTable)) ≡ answer_of (read_into source jets old)) × (eight ts ls es ty ns xs rs ws ≡ read_tables (read_into source jets old) old)
   unfolding read_into
   too_short e = (rw e, rw e)
 
   module _ (room : short_to_read_by (length ns) (length xs) (length rs) (length ws) ≡ false) where
     -- an answer by the lexer's, and the tables by it
-    settled : (a : LexAnswer) (r : ReadAnswer) (new : Tables) → ast.lex_answer source four ≡ a → r ≡ answer_of (reading_by source jets a) → new ≡ read_tables (reading_by source jets a) old → (r ≡ answer_of (read_into source jets old)) × (new ≡ read_tables (read_into source jets old) old)
+    settled : (a : Result ℕ LexError) (r : ReadAnswer) (new : Tables) → ast.lex_answer source four ≡ a → r ≡ answer_of (reading_by source jets a) → new ≡ read_tables (reading_by source jets a) old → (r ≡ answer_of (read_into source jets old)) × (new ≡ read_tables (read_into source jets old) old)
     settled a r new e f g =
         let q : reading_by source jets a ≡ read_into source jets old = ap (reading_by source jets) (sym e) ∙ sym (by_lexer source jets ts ls es ty ns xs rs ws room) in
         (f ∙ ap answer_of q, g ∙ ap (λ (x : Reading). read_tables x old) q)
 
     -- what parsing answered and left
     data Seen : ParseAnswer → ast.ParserTables → Type 0 where
-      short : ast.lex_answer source four ≡ ShortTable → Seen (NotLexed ShortTable) four
-      refused : {a : ParseAnswer} (l : LexAnswer) → ast.lex_answer source four ≡ l → next_by a ≡ Cleared → Refused a ≡ answer_of (reading_by source jets l) → holding nothing old ≡ read_tables (reading_by source jets l) old → Seen a (ast.holding_lines [] [] four)
-      parsed : (m : ℕ) (us : List Line) (rest : List Token) → ast.lex_answer source four ≡ Ended (Tokens m) → parsing source jets ≡ got us rest → Seen (WasParsed (Lines (ast.counts_of_lines (lexing source).tokens us))) (ast.holding_lines (lexing source).tokens us four)
+      short : ast.lex_answer source four ≡ Err ShortTable → Seen (NotLexed (Err ShortTable)) four
+      refused : {a : ParseAnswer} (l : Result ℕ LexError) → ast.lex_answer source four ≡ l → next_by a ≡ Cleared → Refused a ≡ answer_of (reading_by source jets l) → holding nothing old ≡ read_tables (reading_by source jets l) old → Seen a (ast.holding_lines [] [] four)
+      parsed : (m : ℕ) (us : List Line) (rest : List Token) → ast.lex_answer source four ≡ Ok m → parsing source jets ≡ got us rest → Seen (WasParsed (Lines (ast.counts_of_lines (lexing source).tokens us))) (ast.holding_lines (lexing source).tokens us four)
 
     seen : (a : ParseAnswer) (new : ast.ParserTables) → a ≡ ast.parse_all source jets four → new ≡ ast.tables_after source jets four → Seen a new
     seen a new e f = subst (λ (t : ast.ParserTables). Seen a t) (sym f) (subst (λ (x : ParseAnswer). Seen x (ast.tables_after source jets four)) (sym e) (unfold ast.parse_all ast.tables_after in go (ast.lex_answer source four) refl))
       where
-        ended : (m : ℕ) → ast.lex_answer source four ≡ Ended (Tokens m) → (p : Parsed (List Line)) → parsing source jets ≡ p → Seen (WasParsed (end_by (length source) (lexing source).tokens p)) (ast.holding_lines (tokens_in (lexing source).tokens p) (lines_in p) four)
+        ended : (m : ℕ) → ast.lex_answer source four ≡ Ok m → (p : Parsed (List Line)) → parsing source jets ≡ p → Seen (WasParsed (end_by (length source) (lexing source).tokens p)) (ast.holding_lines (tokens_in (lexing source).tokens p) (lines_in p) four)
         ended m e (got us rest) q = parsed m us rest e q
-        ended m e (stop x rest) q = refused {a = WasParsed (end_by (length source) (lexing source).tokens (stop x rest))} (Ended (Tokens m)) e refl (rw q (sym (ap Refused (fault_answer (place_of_left (length source) rest) x)))) (rw q (sym (fault_left (place_of_left (length source) rest) x old)))
+        ended m e (stop x rest) q = refused {a = WasParsed (end_by (length source) (lexing source).tokens (stop x rest))} (Ok m) e refl (rw q (sym (ap Refused (fault_answer (place_of_left (length source) rest) x)))) (rw q (sym (fault_left (place_of_left (length source) rest) x old)))
 
-        go : (l : LexAnswer) → ast.lex_answer source four ≡ l → Seen (parsed_by source jets l) (ast.left_by source jets four l)
-        go ShortTable e = short e
-        go LongSource e = refused {a = NotLexed LongSource} LongSource e refl refl refl
-        go (NotUtf8 at) e = refused {a = NotLexed (NotUtf8 at)} (NotUtf8 at) e refl refl refl
-        go (Ended (NoToken at)) e = refused {a = NotLexed (Ended (NoToken at))} (Ended (NoToken at)) e refl refl refl
-        go (Ended (TooManyTokens at)) e = refused {a = NotLexed (Ended (TooManyTokens at))} (Ended (TooManyTokens at)) e refl refl refl
-        go (Ended (Tokens m)) e = ended m e (parsing source jets) refl
+        go : (l : Result ℕ LexError) → ast.lex_answer source four ≡ l → Seen (parsed_by source jets l) (ast.left_by source jets four l)
+        go (Err ShortTable) e = short e
+        go (Err LongSource) e = refused {a = NotLexed (Err LongSource)} (Err LongSource) e refl refl refl
+        go (Err (NotUtf8 at)) e = refused {a = NotLexed (Err (NotUtf8 at))} (Err (NotUtf8 at)) e refl refl refl
+        go (Err (NoToken at)) e = refused {a = NotLexed (Err (NoToken at))} (Err (NoToken at)) e refl refl refl
+        go (Err (TooManyTokens at)) e = refused {a = NotLexed (Err (TooManyTokens at))} (Err (TooManyTokens at)) e refl refl refl
+        go (Ok m) e = ended m e (parsing source jets) refl
 
     module _ (a : ParseAnswer) (x : AfterParse) (ts' ls' es' ty' : List ℕ) (ea : a ≡ ast.parse_all source jets four) (et : tables ts' ls' es' ty' ≡ ast.tables_after source jets four) (ex : x ≡ next_by a) where
       new : ast.ParserTables
@@ -105,7 +105,7 @@ module _ (source jets ts ls es ty ns xs rs ws : List ℕ) where
       untouched u = go a (tables ts' ls' es' ty') (seen a (tables ts' ls' es' ty') ea et) (sym ex ∙ u)
         where
           go : (a : ParseAnswer) (t : ast.ParserTables) → Seen a t → next_by a ≡ Untouched → (Refused a ≡ answer_of (read_into source jets old)) × (eight_with t ns xs rs ws ≡ read_tables (read_into source jets old) old)
-          go a t (short e) q = settled ShortTable (Refused (NotLexed ShortTable)) old e refl refl
+          go a t (short e) q = settled (Err ShortTable) (Refused (NotLexed (Err ShortTable))) old e refl refl
           go a t (refused l e c f g) q = absurd (let z : ◌≡◌ {A = ℕ} 0 1 = cc in omega arith)
           go a t (parsed m us rest e p) q = absurd (let z : ◌≡◌ {A = ℕ} 0 1 = cc in omega arith)
 
@@ -136,12 +136,12 @@ module _ (source jets ts ls es ty ns xs rs ws : List ℕ) where
             go a t k (refused l e c f g) q = absurd (let z : ◌≡◌ {A = ℕ} 0 1 = cc in omega arith)
             go a t k (parsed m us rest e p) q = at
               where
-                lexed : (lexing source).answer ≡ Tokens m
+                lexed : (lexing source).answer ≡ Ok m
                 lexed = ended (ast.short_to_parse four) refl
                   where
-                    ended : (b : Bool) → ast.short_to_parse four ≡ b → (lexing source).answer ≡ Tokens m
-                    ended true h = let f : ShortTable ≡ Ended (Tokens m) = rw h at e in absurd (let z : ◌≡◌ {A = ℕ} 0 1 = cc in omega arith)
-                    ended false h = (lex_ended source ts (has_room (length ts) (length ls) (length es) (length ty) h).0 (Tokens m) (rw h at e)).0
+                    ended : (b : Bool) → ast.short_to_parse four ≡ b → (lexing source).answer ≡ Ok m
+                    ended true h = let f : (Err ShortTable) ≡ (Ok m) = rw h at e in absurd (let z : ◌≡◌ {A = ℕ} 0 1 = cc in omega arith)
+                    ended false h = (lex_ended source ts (has_room (length ts) (length ls) (length es) (length ty) h).0 (Ok m) (rw h at e)).0
 
                 at : HeldLines source ls' es' n.lines found
                 at =
@@ -166,6 +166,6 @@ module _ (source jets ts ls es ty ns xs rs ws : List ℕ) where
             go a t (refused l e c g h) q = absurd (let z : ◌≡◌ {A = ℕ} 0 1 = cc in omega arith)
             go a t (parsed m us rest e p) q =
                 let c : n ≡ ast.counts_of_lines (lexing source).tokens us = cc in
-                settled (Ended (Tokens m)) (Read r) (eight_with (ast.holding_lines (lexing source).tokens us four) ns' xs' rs' ws') e
+                settled (Ok m) (Read r) (eight_with (ast.holding_lines (lexing source).tokens us four) ns' xs' rs' ws') e
                 (rw p (ap Read (d.0 ∙ rw (c, p) (sym (counts_held (lexing source).tokens us)))))
                 (rw (d.1, d.2, d.3, d.4, p) (sym (tables_held (lexing source).tokens us old)))

@@ -1,5 +1,5 @@
 -- Document 01: what a source says, and what eight lent tables hold then.
-use Rattle.std.specs.Prelude.{ℕ, ◌*◌, Bool, ◌||◌, List, [], map, ltb, length, if◌then◌else◌}
+use Rattle.std.specs.Prelude.{ℕ, ◌*◌, Bool, ◌||◌, List, [], map, ltb, length, if◌then◌else◌, Err, Ok, Result}
 use Rattle.records.specs.Limits.{source_limit, record_limit, token_width, line_width, expr_width, type_width, name_width, node_width, error_width, work_width}
 use Rattle.records.specs.Records.{token_words, line_words, expr_words, type_words, name_words, node_words, error_words}
 use Rattle.records.specs.Refusals as refusal
@@ -14,12 +14,7 @@ use Rattle.records.specs.declared.NodeRecord.{NodeRecord}
 use Rattle.records.specs.declared.ErrorRecord.{ErrorRecord}
 use Rattle.tables.specs.Tables.{table_of}
 use Rattle.text.specs.Check.{check_text}
-use Rattle.text.specs.declared.TextAnswer.{TextAnswer}
-use Rattle.text.specs.declared.TextAnswer.TheVariants.{Valid, BadAt}
 use Rattle.lex.specs.Tokens.{Token, record_of, lexing}
-use Rattle.lex.specs.declared.LexAnswer.TheVariants.{ShortTable, LongSource, NotUtf8, Ended}
-use Rattle.lex.specs.declared.LexEnd.{LexEnd}
-use Rattle.lex.specs.declared.LexEnd.TheVariants.{Tokens, NoToken, TooManyTokens}
 use Rattle.checks.specs.Checks.{refused_at}
 use Rattle.checks.specs.declared.Fault.{Fault}
 use Rattle.checks.specs.declared.Fault.TheVariants.{ParseFailed, BadWordLength, EntropyInsufficient, EntropyTooMuch, UnknownJet, Bad2ExpNumber, NumberOutOfRange, TooDeep}
@@ -38,6 +33,10 @@ use Rattle.errors.specs.Errors.{all_errors}
 use Rattle.ends.specs.declared.ReadCounts.{ReadCounts}
 use Rattle.ends.specs.declared.ReadAnswer.{ReadAnswer}
 use Rattle.ends.specs.declared.ReadAnswer.TheVariants.{Read, Refused as NotRead}
+use Rattle.text.specs.declared.TextError.{TextError}
+use Rattle.text.specs.declared.TextError.TheVariants.{BadAt}
+use Rattle.lex.specs.declared.LexError.{LexError}
+use Rattle.lex.specs.declared.LexError.TheVariants.{LongSource, NoToken, NotUtf8, ShortTable, TooManyTokens}
 
 -- ---- the reading
 
@@ -78,15 +77,15 @@ by_lines source ts (got ls rest) = read (contents ts ls)
 by_lines source ts (stop x rest) = refused (refused_at (place_of_left (length source) rest) x)
 
 -- 4 and 5, whichever is met first from the left; 6 to 13 only when the whole source has lexed
-abbrev pub by_tokens : (source jets : List ℕ) → LexEnd → Reading
-by_tokens source jets (Tokens n) = by_lines source (lexing source).tokens (parsing source jets)
-by_tokens source jets (NoToken at) = refused (refusal.no_token at.0)
-by_tokens source jets (TooManyTokens at) = refused (refusal.too_many_tokens at.0)
+abbrev pub by_tokens : (source jets : List ℕ) → Result ℕ LexError → Reading
+by_tokens source jets (Ok n) = by_lines source (lexing source).tokens (parsing source jets)
+by_tokens source jets (Err (NoToken at)) = refused (refusal.no_token at.0)
+by_tokens source jets (Err (TooManyTokens at)) = refused (refusal.too_many_tokens at.0)
 
 -- 3: not UTF-8
-abbrev pub by_text : (source jets : List ℕ) → TextAnswer → Reading
-by_text source jets Valid = by_tokens source jets (lexing source).answer
-by_text source jets (BadAt at) = refused (refusal.not_utf8 at)
+abbrev pub by_text : (source jets : List ℕ) → Result (Unit {0}) TextError → Reading
+by_text source jets (Ok _) = by_tokens source jets (lexing source).answer
+by_text source jets (Err (BadAt at)) = refused (refusal.not_utf8 at)
 
 -- the reading of a source; 2 first: a source over 32,768 bytes
 unfoldable pub reading : (source jets : List ℕ) → Reading
@@ -184,11 +183,11 @@ abbrev pub faulty : (at : ℕ) → Fault → ParseAnswer
 faulty at x = WasParsed (NotParsed (record { fault = x; at = record { 0 = at } }))
 
 abbrev pub refusal_answer : Refused → ParseAnswer
-refusal_answer refusal.short_table = NotLexed ShortTable
-refusal_answer refusal.long_source = NotLexed LongSource
-refusal_answer (refusal.not_utf8 at) = NotLexed (NotUtf8 (record { 0 = at }))
-refusal_answer (refusal.no_token at) = NotLexed (Ended (NoToken (record { 0 = at })))
-refusal_answer (refusal.too_many_tokens at) = NotLexed (Ended (TooManyTokens (record { 0 = at })))
+refusal_answer refusal.short_table = NotLexed (Err ShortTable)
+refusal_answer refusal.long_source = NotLexed (Err LongSource)
+refusal_answer (refusal.not_utf8 at) = NotLexed (Err (NotUtf8 (record { 0 = at })))
+refusal_answer (refusal.no_token at) = NotLexed (Err (NoToken (record { 0 = at })))
+refusal_answer (refusal.too_many_tokens at) = NotLexed (Err (TooManyTokens (record { 0 = at })))
 refusal_answer (refusal.parse_failed at) = faulty at ParseFailed
 refusal_answer (refusal.bad_word_length at n) = faulty at (BadWordLength n)
 refusal_answer (refusal.short_fail at n) = faulty at (EntropyInsufficient n)

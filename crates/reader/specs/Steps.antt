@@ -1,8 +1,7 @@
 -- How the code of `read` goes about it: what parsing leaves to be done, and what the steps behind it answer and leave.
-use Rattle.std.specs.Prelude.{ℕ, ◌≡◌, List, [], length}
+use Rattle.std.specs.Prelude.{ℕ, ◌≡◌, List, [], length, Err}
 use Rattle.records.specs.Limits.{name_width, node_width, error_width, work_width}
 use Rattle.tables.specs.Tables.{table_of}
-use Rattle.lex.specs.declared.LexAnswer.TheVariants.{ShortTable, LongSource, NotUtf8, Ended}
 use Rattle.grammar.specs.Tree.{Line}
 use Rattle.ends.specs.declared.Counts.{Counts}
 use Rattle.ends.specs.declared.ParseAnswer.{ParseAnswer}
@@ -14,13 +13,14 @@ use Rattle.errors.specs.Errors.{all_errors}
 use Rattle.ends.specs.declared.ReadCounts.{ReadCounts}
 use Rattle.reader.specs.declared.AfterParse.{AfterParse}
 use Rattle.reader.specs.declared.AfterParse.TheVariants.{Untouched, Cleared, Parsed}
+use Rattle.lex.specs.declared.LexError.TheVariants.{LongSource, NotUtf8, ShortTable}
 
 -- nothing, for no word was changed; to set the other tables to zero; or to resolve the lines
 abbrev pub next_by : ParseAnswer → AfterParse
-next_by (NotLexed ShortTable) = Untouched
-next_by (NotLexed LongSource) = Cleared
-next_by (NotLexed (NotUtf8 at)) = Cleared
-next_by (NotLexed (Ended e)) = Cleared
+next_by (NotLexed (Err ShortTable)) = Untouched
+next_by (NotLexed (Err LongSource)) = Cleared
+next_by (NotLexed (Err (NotUtf8 at))) = Cleared
+next_by (NotLexed (e)) = Cleared
 next_by (WasParsed (Lines n)) = Parsed n
 next_by (WasParsed (NotParsed r)) = Cleared
 

@@ -1,5 +1,5 @@
 -- Document 01, Refusals: the table.
-use Rattle.std.specs.Prelude.{ℕ}
+use Rattle.std.specs.Prelude.{ℕ, Result, Ok, Err}
 use Rattle.records.specs.declared.refusals.Refusal.{Refusal}
 
 -- one case for each refusal, in the order they are looked for; `at` is a byte offset, end of source is the source's length
@@ -25,6 +25,11 @@ refusal_row n p v = record { no = n; value = v; place = p }
 -- the answer is no refusal
 abbrev pub no_row : Refusal
 no_row = refusal_row 0 0 0
+
+-- an answer's row, by the row of why it is refused
+abbrev pub row_by : {T E : Type 0} → (E → Refusal) → Result T E → Refusal
+row_by f (Ok x) = no_row
+row_by f (Err e) = f e
 
 abbrev pub row_of : Refused → Refusal
 row_of short_table = refusal_row 1 0 0

@@ -2,7 +2,8 @@
 // limits and the types of numbers stand in modules of their own.
 #![tactic(auto)]
 
-ghost use Rattle.std.specs.Prelude.{◌≡◌};
+ghost use Rattle.std.specs.Prelude.{◌≡◌, ◌<◌, ◌^◌, List, ℕ};
+ghost use Rattle.std.proofs.Common.{rules};
 ghost use Rattle.records.specs.Records.{no_span, token_words, line_words, expr_words, type_words, name_words, node_words, error_words, word_places};
 
 use crate::kinds::{ErrorKind, NodeKind, TokenKind, TypeKind};
@@ -30,6 +31,18 @@ pub fn no_span() -> Span
     }
 }
 
+// What stands in a table as N words.
+pub trait Record<const N: usize> {
+    ghost words_of: { Self → List ℕ };
+
+    // The record's words.
+    fn words(self) -> [u32; N]
+        ensures { result ≡ words_of self };
+
+    // No record has more words than a number can say.
+    ghost narrow: { N < 2 ^ 32 };
+}
+
 #[derive(Clone, Copy)]
 pub struct TokenRecord {
     pub kind: TokenKind,
@@ -44,11 +57,14 @@ impl TokenRecord {
     pub const START: u32 = 1;
 
     pub const LEN: u32 = 2;
+}
 
-    // The record's words.
-    pub fn words(self) -> [u32; TokenRecord::WORDS as usize]
-        ensures { result ≡ token_words self }
-    {
+impl Record<3> for TokenRecord {
+    ghost words_of = { token_words };
+
+    ghost narrow = { Prim.search rules };
+
+    fn words(self) -> [u32; 3] {
         [self.kind.0, self.span.start.0, self.span.len]
     }
 }
@@ -73,11 +89,14 @@ impl LineRecord {
     pub const SOURCE: u32 = 3;
 
     pub const TARGET: u32 = 4;
+}
 
-    // The record's words.
-    pub fn words(self) -> [u32; LineRecord::WORDS as usize]
-        ensures { result ≡ line_words self }
-    {
+impl Record<5> for LineRecord {
+    ghost words_of = { line_words };
+
+    ghost narrow = { Prim.search rules };
+
+    fn words(self) -> [u32; 5] {
         [
             self.name.start.0,
             self.name.len,
@@ -111,11 +130,14 @@ impl ExprRecord {
     pub const SPAN_START: u32 = 4;
 
     pub const SPAN_LEN: u32 = 5;
+}
 
-    // The record's words.
-    pub fn words(self) -> [u32; ExprRecord::WORDS as usize]
-        ensures { result ≡ expr_words self }
-    {
+impl Record<6> for ExprRecord {
+    ghost words_of = { expr_words };
+
+    ghost narrow = { Prim.search rules };
+
+    fn words(self) -> [u32; 6] {
         [
             self.kind.0,
             self.start.0,
@@ -146,11 +168,14 @@ impl TypeRecord {
     pub const RIGHT: u32 = 2;
 
     pub const N: u32 = 3;
+}
 
-    // The record's words.
-    pub fn words(self) -> [u32; TypeRecord::WORDS as usize]
-        ensures { result ≡ type_words self }
-    {
+impl Record<4> for TypeRecord {
+    ghost words_of = { type_words };
+
+    ghost narrow = { Prim.search rules };
+
+    fn words(self) -> [u32; 4] {
         [self.kind.0, self.left, self.right, self.n]
     }
 }
@@ -172,11 +197,14 @@ impl NameRecord {
     pub const EXPR: u32 = 2;
 
     pub const NODE: u32 = 3;
+}
 
-    // The record's words.
-    pub fn words(self) -> [u32; NameRecord::WORDS as usize]
-        ensures { result ≡ name_words self }
-    {
+impl Record<4> for NameRecord {
+    ghost words_of = { name_words };
+
+    ghost narrow = { Prim.search rules };
+
+    fn words(self) -> [u32; 4] {
         [self.span.start.0, self.span.len, self.expr.0, self.node.0]
     }
 }
@@ -210,11 +238,14 @@ impl NodeRecord {
     pub const SPAN_LEN: u32 = 6;
 
     pub const IN_DEGREE: u32 = 7;
+}
 
-    // The record's words.
-    pub fn words(self) -> [u32; NodeRecord::WORDS as usize]
-        ensures { result ≡ node_words self }
-    {
+impl Record<8> for NodeRecord {
+    ghost words_of = { node_words };
+
+    ghost narrow = { Prim.search rules };
+
+    fn words(self) -> [u32; 8] {
         [
             self.kind.0,
             self.start.0,
@@ -245,11 +276,14 @@ impl ErrorRecord {
     pub const NAME_START: u32 = 2;
 
     pub const NAME_LEN: u32 = 3;
+}
 
-    // The record's words.
-    pub fn words(self) -> [u32; ErrorRecord::WORDS as usize]
-        ensures { result ≡ error_words self }
-    {
+impl Record<4> for ErrorRecord {
+    ghost words_of = { error_words };
+
+    ghost narrow = { Prim.search rules };
+
+    fn words(self) -> [u32; 4] {
         [self.kind.0, self.start.0, self.name.start.0, self.name.len]
     }
 }

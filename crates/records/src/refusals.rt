@@ -1,4 +1,6 @@
 // A row of document 01's table of refusals, as a host is handed it.
+ghost use Rattle.std.specs.Prelude.{◌≡◌};
+ghost use Rattle.records.specs.Refusals.{no_row, row_by};
 
 #[repr(C)]
 #[derive(Clone, Copy)]
@@ -39,4 +41,36 @@ impl Refusal {
     pub const BIG_EXPONENT: u32 = 12;
 
     pub const TOO_DEEP: u32 = 13;
+}
+
+// Why an answer is refused: each cause has its row of the table.
+pub trait Cause: Copy {
+    ghost use Rattle.records.specs.declared.refusals.Refusal.{Refusal};
+
+    ghost row_of: { Self → Refusal };
+
+    // The row.
+    fn row(self) -> Refusal
+        ensures { result ≡ row_of self };
+}
+
+// The row of what is not refused.
+pub fn no_row() -> Refusal
+    ensures { result ≡ no_row }
+{
+    Refusal {
+        no: Refusal::NONE,
+        value: 0,
+        place: 0,
+    }
+}
+
+// The row of an answer: its cause's, or that of none.
+pub fn row<T: Copy, E: Cause>(answer: Result<T, E>) -> Refusal
+    ensures { result ≡ row_by E.row_of answer }
+{
+    match answer {
+        Ok(_) => no_row(),
+        Err(cause) => cause.row(),
+    }
 }

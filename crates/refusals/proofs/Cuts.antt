@@ -18,8 +18,6 @@ use Rattle.records.specs.TokenKind as kind
 use Rattle.records.specs.declared.kinds.TokenKind.{TokenKind}
 use Rattle.matches.specs.declared.Lexed.{Lexed}
 use Rattle.matches.specs.declared.Lexed.TheVariants.{Token as OfKind, Skip, NoMatch}
-use Rattle.lex.specs.declared.LexEnd.{LexEnd}
-use Rattle.lex.specs.declared.LexEnd.TheVariants.{Tokens, NoToken, TooManyTokens}
 use Rattle.matches.specs.Rows.{Row, rows}
 use Rattle.matches.specs.Longest.{made, lex_at}
 use Rattle.matches.specs.Sets.{Front, Among, Lexes, wins, nothing}
@@ -30,6 +28,9 @@ use Rattle.matches.proofs.Sizes.{Sized, match_sized}
 use Rattle.lex.proofs.Going.{front_none, front_skip, front_full, front_token}
 use Rattle.lex.proofs.Tiling.{tiling, tiles_lexed, tokens_few}
 use Rattle.refusals.specs.Cuts.{Cut, end, skip, token, CutUpTo, NothingMatches, TokenTooMany}
+use Rattle.lex.specs.declared.LexError.{LexError}
+use Rattle.lex.specs.declared.LexError.TheVariants.{NoToken, TooManyTokens}
+use Rattle.std.specs.Prelude.{Err, Ok, Result}
 
 -- ---- no match: no row has a front
 
@@ -47,13 +48,13 @@ unmatched_rows s = (λ e. lacks (rw e at (lexed s)), λ f. lexes_once rows s (le
 -- ---- what is lexed is cut
 
 -- why the lexing ends: so many tokens stand before the offset p, and `rest` stands there
-abbrev Why : LexEnd → (count p : ℕ) → (rest : List ℕ) → Type 0
-Why (Tokens n) count p rest = rest ≡ []
-Why (NoToken q) count p rest = (p ≡ q.0) × (0 < length rest) × (lex_at rest ≡ NoMatch)
-Why (TooManyTokens q) count p rest = (p ≡ q.0) × (count ≡ record_limit) × ((k : TokenKind) × (n : ℕ) × (lex_at rest ≡ OfKind k n))
+abbrev Why : Result ℕ LexError → (count p : ℕ) → (rest : List ℕ) → Type 0
+Why (Ok n) count p rest = rest ≡ []
+Why (Err (NoToken q)) count p rest = (p ≡ q.0) × (0 < length rest) × (lex_at rest ≡ NoMatch)
+Why (Err (TooManyTokens q)) count p rest = (p ≡ q.0) × (count ≡ record_limit) × ((k : TokenKind) × (n : ℕ) × (lex_at rest ≡ OfKind k n))
 
 -- s, which stands at the offset `at` with `count` tokens before it, is cut up to where the lexing ends
-record Ending (at count : ℕ) (s : List ℕ) (e : LexEnd) : Type 0 where
+record Ending (at count : ℕ) (s : List ℕ) (e : Result ℕ LexError) : Type 0 where
   front : List ℕ
   rest : List ℕ
   tokens : List Token
@@ -63,11 +64,11 @@ record Ending (at count : ℕ) (s : List ℕ) (e : LexEnd) : Type 0 where
   why : Why e (count + length tokens) (at + length front) rest
 
 -- at once
-ends_here : (at count : ℕ) (s : List ℕ) (e : LexEnd) → count ≤ record_limit → Why e count at s → Ending at count s e
+ends_here : (at count : ℕ) (s : List ℕ) (e : Result ℕ LexError) → count ≤ record_limit → Why e count at s → Ending at count s e
 ends_here at count s e h w = record { front = []; rest = s; tokens = []; whole = refl; cut = end; few = omega arith; why = rw (add-zero at, add-zero count) w }
 
 -- behind the first m bytes
-module _ (at m count c : ℕ) (s : List ℕ) (e : LexEnd) (h : m ≤ length s) (p : 0 < m) (r : Ending (at + m) c (drop m s) e) where
+module _ (at m count c : ℕ) (s : List ℕ) (e : Result ℕ LexError) (h : m ≤ length s) (p : 0 < m) (r : Ending (at + m) c (drop m s) e) where
   len : length (take m s) ≡ m
   len = length-take-le m s h
 
@@ -115,10 +116,10 @@ module _ (f at count : ℕ) (s : List ℕ) (some : 0 < length s) (h : length s �
       (ends_token at m count (count + 1) s _ i p (again (at + m) (count + 1) (drop m s) (simp length-drop (omega arith)) (omega arith)) k q refl)
   from_token k m q p i false x =
       let b = ltb-false count record_limit x in
-      rw (front_full at count s some k m b q) (ends_here at count s (TooManyTokens (record { 0 = at })) c (refl, omega arith, (k, m, q)))
+      rw (front_full at count s some k m b q) (ends_here at count s (Err (TooManyTokens (record { 0 = at }))) c (refl, omega arith, (k, m, q)))
 
   from_piece : (l : Lexed) → lex_at s ≡ l → Sized s l → Ending at count s (lex_from at 0 count s).answer
-  from_piece NoMatch q z = rw (front_none at count s some q) (ends_here at count s (NoToken (record { 0 = at })) c (refl, some, q))
+  from_piece NoMatch q z = rw (front_none at count s some q) (ends_here at count s (Err (NoToken (record { 0 = at }))) c (refl, some, q))
   from_piece (Skip m) q z =
       rw (front_skip at count s some m z.0 q)
       (ends_skip at m count count s _ z.1 z.0 (again (at + m) count (drop m s) (simp length-drop (omega (arith, z.0))) c) q refl)
@@ -126,7 +127,7 @@ module _ (f at count : ℕ) (s : List ℕ) (some : 0 < length s) (h : length s �
 
 ends_empty : (at count : ℕ) → count ≤ record_limit → Ending at count [] (lex_from at 0 count []).answer
 unfolding lex_from
-ends_empty at count c = ends_here at count [] (Tokens count) c refl
+ends_empty at count c = ends_here at count [] (Ok count) c refl
 
 ends_from : (f at count : ℕ) (s : List ℕ) → length s ≤ f → count ≤ record_limit → Ending at count s (lex_from at 0 count s).answer
 ends_from zero at count [] h c = ends_empty at count c
@@ -160,16 +161,16 @@ module _ (source : List ℕ) (p : ℕ) (rest : List ℕ) (ts : List Token) (b : 
       rw b.whole (ap (λ (l : Lexing). l.answer) e ∙ rw (zero-add (length b.front), zero-add (length ts), b.place))
 
 module _ (source : List ℕ) (p : ℕ) where
-  up_to : (e : LexEnd) (r : Ending 0 0 source e) → 0 + length r.front ≡ p → CutUpTo source p r.rest r.tokens
+  up_to : (e : Result ℕ LexError) (r : Ending 0 0 source e) → 0 + length r.front ≡ p → CutUpTo source p r.rest r.tokens
   up_to e r q = record { front = r.front; whole = r.whole; place = omega arith; cut = r.cut }
 
   -- refusal 4
-  pub no_token_exactly : ((lexing source).answer ≡ NoToken (record { 0 = p })) ↔ NothingMatches source p
+  pub no_token_exactly : ((lexing source).answer ≡ Err (NoToken (record { 0 = p }))) ↔ NothingMatches source p
   no_token_exactly = (there, back)
     where
-      there : (lexing source).answer ≡ NoToken (record { 0 = p }) → NothingMatches source p
+      there : (lexing source).answer ≡ Err (NoToken (record { 0 = p })) → NothingMatches source p
       there e =
-          let r : Ending 0 0 source (NoToken (record { 0 = p })) = rw e at (ends_from (length source) 0 0 source (omega arith) (omega arith)) in
+          let r : Ending 0 0 source (Err (NoToken (record { 0 = p }))) = rw e at (ends_from (length source) 0 0 source (omega arith) (omega arith)) in
           record {
             rest = r.rest;
             tokens = r.tokens;
@@ -179,18 +180,18 @@ module _ (source : List ℕ) (p : ℕ) where
             none = (unmatched_rows r.rest).0 r.why.2;
           }
 
-      back : NothingMatches source p → (lexing source).answer ≡ NoToken (record { 0 = p })
+      back : NothingMatches source p → (lexing source).answer ≡ Err (NoToken (record { 0 = p }))
       back r =
           cut_rest source p r.rest r.tokens r.before r.few
           ∙ rw (front_none p (length r.tokens) r.rest r.some ((unmatched_rows r.rest).1 r.none))
 
   -- refusal 5
-  pub too_many_exactly : ((lexing source).answer ≡ TooManyTokens (record { 0 = p })) ↔ TokenTooMany source p
+  pub too_many_exactly : ((lexing source).answer ≡ Err (TooManyTokens (record { 0 = p }))) ↔ TokenTooMany source p
   too_many_exactly = (there, back)
     where
-      there : (lexing source).answer ≡ TooManyTokens (record { 0 = p }) → TokenTooMany source p
+      there : (lexing source).answer ≡ Err (TooManyTokens (record { 0 = p })) → TokenTooMany source p
       there e =
-          let r : Ending 0 0 source (TooManyTokens (record { 0 = p })) = rw e at (ends_from (length source) 0 0 source (omega arith) (omega arith)) in
+          let r : Ending 0 0 source (Err (TooManyTokens (record { 0 = p }))) = rw e at (ends_from (length source) 0 0 source (omega arith) (omega arith)) in
           record {
             rest = r.rest;
             tokens = r.tokens;
@@ -201,18 +202,18 @@ module _ (source : List ℕ) (p : ℕ) where
             next = r.why.2.2;
           }
 
-      back : TokenTooMany source p → (lexing source).answer ≡ TooManyTokens (record { 0 = p })
+      back : TokenTooMany source p → (lexing source).answer ≡ Err (TooManyTokens (record { 0 = p }))
       back r =
           let z : Sized r.rest (OfKind r.kind r.size) = rw r.next at (match_sized r.rest) in
           cut_rest source p r.rest r.tokens r.before (omega (arith, r.full))
           ∙ rw (front_full p (length r.tokens) r.rest (omega (arith, z.0, z.1)) r.kind r.size (omega (arith, r.full)) r.next)
 
 -- neither: the whole source is tiled
-pub tokens_exactly : (source : List ℕ) (n : ℕ) → ((lexing source).answer ≡ Tokens n) ↔ ((ts : List Token) × Tiles 0 source ts × (length ts ≡ n) × (n ≤ record_limit))
+pub tokens_exactly : (source : List ℕ) (n : ℕ) → ((lexing source).answer ≡ Ok n) ↔ ((ts : List Token) × Tiles 0 source ts × (length ts ≡ n) × (n ≤ record_limit))
 tokens_exactly source n = (there, back)
   where
-    there : (lexing source).answer ≡ Tokens n → (ts : List Token) × Tiles 0 source ts × (length ts ≡ n) × (n ≤ record_limit)
+    there : (lexing source).answer ≡ Ok n → (ts : List Token) × Tiles 0 source ts × (length ts ≡ n) × (n ≤ record_limit)
     there e = let t = tiling source n e in ((lexing source).tokens, t.0, t.1, tokens_few source n e)
 
-    back : ((ts : List Token) × Tiles 0 source ts × (length ts ≡ n) × (n ≤ record_limit)) → (lexing source).answer ≡ Tokens n
-    back (ts, t, s, h) = ap (λ (l : Lexing). l.answer) (tiles_lexed t (omega arith)) ∙ ap Tokens s
+    back : ((ts : List Token) × Tiles 0 source ts × (length ts ≡ n) × (n ≤ record_limit)) → (lexing source).answer ≡ Ok n
+    back (ts, t, s, h) = ap (λ (l : Lexing). l.answer) (tiles_lexed t (omega arith)) ∙ ap Ok s

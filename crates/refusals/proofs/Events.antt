@@ -1,5 +1,5 @@
 -- What stands at the place of a refusal (`no_file_event`): one walk over the rules of refusal. Assumes nothing.
-use Rattle.std.specs.Prelude.{if◌then◌else◌}
+use Rattle.std.specs.Prelude.{if◌then◌else◌, Err, None, Ok, Option, Some}
 use Prim.Native.Nat.{ℕ, zero, suc, ◌+◌, ◌≤◌}
 use mathlib.Core.Bool.{Bool, true, false}
 use mathlib.Core.Path.{◌≡◌, refl, sym, ◌∙◌}
@@ -14,10 +14,6 @@ use Rattle.records.specs.TokenKind as token
 use Rattle.lex.specs.Tokens.{Token}
 use Rattle.checks.specs.declared.Fault.{Fault}
 use Rattle.checks.specs.declared.Fault.TheVariants.{ParseFailed, BadWordLength, EntropyInsufficient, EntropyTooMuch, UnknownJet, Bad2ExpNumber, NumberOutOfRange, TooDeep}
-use Rattle.checks.specs.declared.Log2.{Log2}
-use Rattle.checks.specs.declared.Log2.TheVariants.{Exactly, NoPower}
-use Rattle.checks.specs.declared.Verdict.TheVariants.{Pass, Fails}
-use Rattle.checks.specs.declared.PowerVerdict.TheVariants.{BadPower}
 use Rattle.checks.specs.Powers.{log2, exponent_of}
 use Rattle.checks.specs.Jets.{known}
 use Rattle.checks.specs.Checks.{Checks, word_bound, word_by, word_verdict, fail_verdict, jet_verdict, power_by, power_verdict, checks_of}
@@ -37,10 +33,10 @@ module _ (checks : Checks) where
   -- why a refusal comes; the depth costs at least so many tokens
   data Cause (depth : ℕ) : (front left : List Token) → Fault → Type 0 where
     parse : {front left : List Token} → Cause depth front left ParseFailed
-    word : (us : List Token) {left : List Token} {x : Fault} (t l : Token) → Is token.const t → OneOf literals l → checks.word l.kind l.text ≡ Fails x → Cause depth (us ++ (t ∷ [])) (l ∷ left) x
-    fail : (us : List Token) {left : List Token} {x : Fault} (t l : Token) → Is token.fail t → OneOf literals l → checks.fail l.kind l.text ≡ Fails x → Cause depth (us ++ (t ∷ [])) (l ∷ left) x
-    jet : {front left : List Token} {x : Fault} (t : Token) → Is token.jet t → checks.jet t.text ≡ Fails x → Cause depth front (t ∷ left) x
-    power : {front left : List Token} {x : Fault} (t : Token) → Is token.power t → checks.power t.text ≡ BadPower x → Cause depth front (t ∷ left) x
+    word : (us : List Token) {left : List Token} {x : Fault} (t l : Token) → Is token.const t → OneOf literals l → checks.word l.kind l.text ≡ Err x → Cause depth (us ++ (t ∷ [])) (l ∷ left) x
+    fail : (us : List Token) {left : List Token} {x : Fault} (t l : Token) → Is token.fail t → OneOf literals l → checks.fail l.kind l.text ≡ Err x → Cause depth (us ++ (t ∷ [])) (l ∷ left) x
+    jet : {front left : List Token} {x : Fault} (t : Token) → Is token.jet t → checks.jet t.text ≡ Err x → Cause depth front (t ∷ left) x
+    power : {front left : List Token} {x : Fault} (t : Token) → Is token.power t → checks.power t.text ≡ Err x → Cause depth front (t ∷ left) x
     deep : (front : List Token) {left : List Token} → depth ≤ length front → Cause depth front left TooDeep
 
   -- with more tokens in front
@@ -130,43 +126,43 @@ module _ (jets : List ℕ) (front : List Token) where
   same_fault : (left : List Token) (x y : Fault) → x ≡ y → Event jets front left x → Event jets front left y
   same_fault left x y e v = rw e at v
 
-  word_event : (l : Token) (left : List Token) (x : Fault) → Behind token.const front → OneOf literals l → word_verdict (bits_in l) ≡ Fails x → Event jets front (l ∷ left) x
+  word_event : (l : Token) (left : List Token) (x : Fault) → Behind token.const front → OneOf literals l → word_verdict (bits_in l) ≡ Err x → Event jets front (l ∷ left) x
   unfolding word_verdict
   word_event l left x b o = go (log2 word_bound (bits_in l)) refl
     where
-      go : (p : Log2) → log2 word_bound (bits_in l) ≡ p → word_by (bits_in l) p ≡ Fails x → Event jets front (l ∷ left) x
-      go (Exactly k) q e = let z : ◌≡◌ {A = ℕ} 0 1 = cc in absurd (omega arith)
-      go NoPower q e = same_fault (l ∷ left) (BadWordLength (bits_in l)) x (cc) (b, stands o (refl, log2_none word_bound (bits_in l) q))
+      go : (p : Option ℕ) → log2 word_bound (bits_in l) ≡ p → word_by (bits_in l) p ≡ Err x → Event jets front (l ∷ left) x
+      go (Some k) q e = let z : ◌≡◌ {A = ℕ} 0 1 = cc in absurd (omega arith)
+      go None q e = same_fault (l ∷ left) (BadWordLength (bits_in l)) x (cc) (b, stands o (refl, log2_none word_bound (bits_in l) q))
 
-  fail_event : (l : Token) (left : List Token) (x : Fault) → Behind token.fail front → OneOf literals l → fail_verdict (bits_in l) ≡ Fails x → Event jets front (l ∷ left) x
+  fail_event : (l : Token) (left : List Token) (x : Fault) → Behind token.fail front → OneOf literals l → fail_verdict (bits_in l) ≡ Err x → Event jets front (l ∷ left) x
   unfolding fail_verdict
   fail_event l left x b o = short (ltb (bits_in l) 128) refl
     where
-      long : (p : Bool) → ltb 512 (bits_in l) ≡ p → (if p then Fails (EntropyTooMuch (bits_in l)) else Pass) ≡ Fails x → Event jets front (l ∷ left) x
+      long : (p : Bool) → ltb 512 (bits_in l) ≡ p → (if p then Err (EntropyTooMuch (bits_in l)) else Ok tt) ≡ Err x → Event jets front (l ∷ left) x
       long true q e = same_fault (l ∷ left) (EntropyTooMuch (bits_in l)) x (cc) (b, stands o (refl, ltb-true 512 (bits_in l) q))
       long false q e = let z : ◌≡◌ {A = ℕ} 0 1 = cc in absurd (omega arith)
 
-      short : (p : Bool) → ltb (bits_in l) 128 ≡ p → (if p then Fails (EntropyInsufficient (bits_in l)) else if ltb 512 (bits_in l) then Fails (EntropyTooMuch (bits_in l)) else Pass) ≡ Fails x → Event jets front (l ∷ left) x
+      short : (p : Bool) → ltb (bits_in l) 128 ≡ p → (if p then Err (EntropyInsufficient (bits_in l)) else if ltb 512 (bits_in l) then Err (EntropyTooMuch (bits_in l)) else Ok tt) ≡ Err x → Event jets front (l ∷ left) x
       short true q e = same_fault (l ∷ left) (EntropyInsufficient (bits_in l)) x (cc) (b, stands o (refl, ltb-true (bits_in l) 128 q))
       short false q e = long (ltb 512 (bits_in l)) refl e
 
-  jet_event : (t : Token) (left : List Token) (x : Fault) → Is token.jet t → jet_verdict jets t.text ≡ Fails x → Event jets front (t ∷ left) x
+  jet_event : (t : Token) (left : List Token) (x : Fault) → Is token.jet t → jet_verdict jets t.text ≡ Err x → Event jets front (t ∷ left) x
   unfolding jet_verdict
   jet_event t left x i = go (known jets t.text) refl
     where
-      go : (p : Bool) → known jets t.text ≡ p → (if p then Pass else Fails UnknownJet) ≡ Fails x → Event jets front (t ∷ left) x
+      go : (p : Bool) → known jets t.text ≡ p → (if p then Ok tt else Err UnknownJet) ≡ Err x → Event jets front (t ∷ left) x
       go true q e = let z : ◌≡◌ {A = ℕ} 0 1 = cc in absurd (omega arith)
       go false q e = same_fault (t ∷ left) UnknownJet x (cc) (stands i (λ p. let y : true ≡ false = sym ((known_piece jets t.text).1 p) ∙ q in let z : ◌≡◌ {A = ℕ} 0 1 = cc in omega arith))
 
-  power_event : (t : Token) (left : List Token) (x : Fault) → Is token.power t → power_verdict t.text ≡ BadPower x → Event jets front (t ∷ left) x
+  power_event : (t : Token) (left : List Token) (x : Fault) → Is token.power t → power_verdict t.text ≡ Err x → Event jets front (t ∷ left) x
   unfolding power_verdict
   power_event t left x i = big (ltb 4294967295 (exponent_of t.text)) refl
     where
-      bad : exponent_of t.text ≤ 4294967295 → (p : Log2) → log2 10 (exponent_of t.text) ≡ p → power_by (exponent_of t.text) p ≡ BadPower x → Event jets front (t ∷ left) x
-      bad h (Exactly k) q e = let z : ◌≡◌ {A = ℕ} 0 1 = cc in absurd (omega arith)
-      bad h NoPower q e = same_fault (t ∷ left) (Bad2ExpNumber (exponent_of t.text)) x (cc) (stands i (refl, h, log2_none 10 (exponent_of t.text) q))
+      bad : exponent_of t.text ≤ 4294967295 → (p : Option ℕ) → log2 10 (exponent_of t.text) ≡ p → power_by (exponent_of t.text) p ≡ Err x → Event jets front (t ∷ left) x
+      bad h (Some k) q e = let z : ◌≡◌ {A = ℕ} 0 1 = cc in absurd (omega arith)
+      bad h None q e = same_fault (t ∷ left) (Bad2ExpNumber (exponent_of t.text)) x (cc) (stands i (refl, h, log2_none 10 (exponent_of t.text) q))
 
-      big : (p : Bool) → ltb 4294967295 (exponent_of t.text) ≡ p → (if p then BadPower NumberOutOfRange else power_by (exponent_of t.text) (log2 10 (exponent_of t.text))) ≡ BadPower x → Event jets front (t ∷ left) x
+      big : (p : Bool) → ltb 4294967295 (exponent_of t.text) ≡ p → (if p then Err NumberOutOfRange else power_by (exponent_of t.text) (log2 10 (exponent_of t.text))) ≡ Err x → Event jets front (t ∷ left) x
       big true q e = same_fault (t ∷ left) NumberOutOfRange x (cc) (stands i (ltb-true 4294967295 (exponent_of t.text) q))
       big false q e = bad (ltb-false 4294967295 (exponent_of t.text) q) (log2 10 (exponent_of t.text)) refl e
 

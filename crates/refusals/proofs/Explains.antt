@@ -9,8 +9,6 @@ use Rattle.records.specs.TokenKind as token
 use Rattle.lex.specs.Tokens.{Token}
 use Rattle.checks.specs.declared.Fault.{Fault}
 use Rattle.checks.specs.declared.Fault.TheVariants.{ParseFailed}
-use Rattle.checks.specs.declared.PowerVerdict.{PowerVerdict}
-use Rattle.checks.specs.declared.PowerVerdict.TheVariants.{Power, BadPower}
 use Rattle.checks.specs.Checks.{Checks}
 use Rattle.grammar.specs.Tree as tree
 use Rattle.grammar.specs.Tree.{Expr, Op, op_token, Ty, Line}
@@ -26,13 +24,14 @@ use Rattle.refusals.specs.Refuses as no
 use Rattle.refusals.specs.Refuses.{NotNext, other, goes_on_type, goes_on_line, NoType, NoAtom, NoExpr, NoCmr, NoArrow, NoLine, NoFile}
 use Rattle.refusals.proofs.Next.{more_kinds}
 use Rattle.refusals.proofs.Refusing.{Leaving, leaves, stopped, Leaves, leaves_then, leaves_any, leaves_choice, Unless, perhaps_leaves, leaves_repeat, Refusing, fine, stops, Refuses, refuses_wide, behind, behind_at, refuses_passed, refuses_map, refuses_then, refuses_one_of, refuses_choice, refuses_perhaps, refuses_repeat}
+use Rattle.std.specs.Prelude.{Err, Ok, Result}
 
 module _ (checks : Checks) where
   -- ---- types
 
-  power_refuses : (t : Token) (v : PowerVerdict) (us : List Token) → Is token.power t → checks.power t.text ≡ v → Refusing (λ front left x. (d : ℕ) → NoAtom checks d front left x) (t ∷ us) (power t v us)
-  power_refuses t (Power n) us i e = fine
-  power_refuses t (BadPower x) us i e = stops [] (λ d. no.power t i e)
+  power_refuses : (t : Token) (v : Result ℕ Fault) (us : List Token) → Is token.power t → checks.power t.text ≡ v → Refusing (λ front left x. (d : ℕ) → NoAtom checks d front left x) (t ∷ us) (power t v us)
+  power_refuses t (Ok n) us i e = fine
+  power_refuses t (Err x) us i e = stops [] (λ d. no.power t i e)
 
   type_head_refuses : Refuses (type_head checks) (λ front left x. (d : ℕ) → NoAtom checks d front left x)
   unfolding type_head

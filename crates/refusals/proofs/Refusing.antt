@@ -1,7 +1,7 @@
 -- Two principles for every rule of the grammar, each kept by every way to build a rule. A rule refuses by M if, where it stops,
 -- the tokens that it accepted, those that are left and the fault are of M. A rule leaves P if what it gives and the tokens that
 -- it leaves are of P. Assumes nothing.
-use Rattle.std.specs.Prelude.{if◌then◌else◌}
+use Rattle.std.specs.Prelude.{if◌then◌else◌, Err, Ok, Result}
 use Prim.Native.Nat.{ℕ, zero, suc, ◌≤◌}
 use mathlib.Core.Bool.{Bool, true, false}
 use mathlib.Core.Path.{◌≡◌, refl}
@@ -13,8 +13,6 @@ use Rattle.records.specs.TokenKind as token
 use Rattle.lex.specs.Tokens.{Token}
 use Rattle.checks.specs.declared.Fault.{Fault}
 use Rattle.checks.specs.declared.Fault.TheVariants.{ParseFailed}
-use Rattle.checks.specs.declared.Verdict.{Verdict}
-use Rattle.checks.specs.declared.Verdict.TheVariants.{Pass, Fails}
 use Rattle.grammar.specs.Rule.{Parsed, got, stop, Rule, go_on, ◌>>=◌, ◌>>◌, give, is_of, one_of, Table, entry, chosen, choice, taken, perhaps, again, repeat_for, repeat}
 use Rattle.grammar.specs.Grammar.{passed}
 use Rattle.grammar.specs.Derives.{OneOf, Is}
@@ -122,10 +120,10 @@ module _ {A : Type 0} {M : List Token → List Token → Fault → Type 0} where
   behind_at us ts vs e h = rw e (behind us h)
 
   -- a test of the token that was taken last
-  pub refuses_passed : (a : A) (t : Token) (v : Verdict) (ts : List Token) → ((x : Fault) → v ≡ Fails x → M [] (t ∷ ts) x) → Refusing M (t ∷ ts) ((passed t v >> give a) ts)
+  pub refuses_passed : (a : A) (t : Token) (v : Result (Unit {0}) Fault) (ts : List Token) → ((x : Fault) → v ≡ Err x → M [] (t ∷ ts) x) → Refusing M (t ∷ ts) ((passed t v >> give a) ts)
   unfolding go_on
-  refuses_passed a t Pass ts h = fine
-  refuses_passed a t (Fails x) ts h = stops [] (h x refl)
+  refuses_passed a t (Ok _) ts h = fine
+  refuses_passed a t (Err x) ts h = stops [] (h x refl)
 
 -- one rule after the other, by what the first answers
 refuses_on : {A B : Type 0} {M N : List Token → List Token → Fault → Type 0} {f : A → Rule B} → ((front left : List Token) (x : Fault) → N front left x → M front left x) → {ts : List Token} {r : Parsed A} → ((a : A) (rest : List Token) → r ≡ got a rest → Refusing M ts (f a rest)) → Refusing N ts r → Refusing M ts (go_on r f)

@@ -12,12 +12,8 @@ use borrow.Author.Tests.{ltb-true, ltb-false, lt-ltb, le-ltb}
 use Rattle.records.specs.Limits.{source_limit}
 use Rattle.records.specs.Refusals as refusal
 use Rattle.text.specs.Check.{Right, check_text}
-use Rattle.text.specs.declared.TextAnswer.{TextAnswer}
-use Rattle.text.specs.declared.TextAnswer.TheVariants.{Valid as WellFormed, BadAt}
 use Rattle.text.proofs.Declared.{check_right, right_once}
 use Rattle.lex.specs.Tokens.{Token, Lexing, lexing}
-use Rattle.lex.specs.declared.LexEnd.{LexEnd}
-use Rattle.lex.specs.declared.LexEnd.TheVariants.{Tokens, NoToken, TooManyTokens}
 use Rattle.lex.proofs.Tiling.{tiles_lexed}
 use Rattle.checks.specs.declared.Fault.{Fault}
 use Rattle.checks.specs.declared.Fault.TheVariants.{ParseFailed, BadWordLength, EntropyInsufficient, EntropyTooMuch, UnknownJet, Bad2ExpNumber, NumberOutOfRange, TooDeep}
@@ -31,6 +27,11 @@ use Rattle.reader.specs.Reading.{Contents, contents, Reading, read, refused, by_
 use Rattle.refusals.specs.When.{Small, Valid, Lexed, Stops, When, Accepted}
 use Rattle.refusals.proofs.Events.{refused_event}
 use Rattle.refusals.proofs.Cuts.{no_token_exactly, too_many_exactly, tokens_exactly}
+use Rattle.std.specs.Prelude.{Err, Ok, Result}
+use Rattle.text.specs.declared.TextError.{TextError}
+use Rattle.text.specs.declared.TextError.TheVariants.{BadAt}
+use Rattle.lex.specs.declared.LexError.{LexError}
+use Rattle.lex.specs.declared.LexError.TheVariants.{NoToken, TooManyTokens}
 
 module _ (source jets : List ℕ) (old : Tables) where
   -- the condition of a reading
@@ -45,16 +46,16 @@ module _ (source jets : List ℕ) (old : Tables) where
   unfolding read_into reading
   small_reading h = rw (h.0, le-ltb source_limit (length source) h.1)
 
-  text_reading : (a : TextAnswer) → Small source jets old → Right source a → read_into source jets old ≡ by_text source jets a
+  text_reading : (a : Result (Unit {0}) TextError) → Small source jets old → Right source a → read_into source jets old ≡ by_text source jets a
   text_reading a h r = small_reading h ∙ ap (by_text source jets) (right_once source (check_text source) a (check_right source) r)
 
-  valid_reading : (e : LexEnd) → Valid source jets old → (lexing source).answer ≡ e → read_into source jets old ≡ by_tokens source jets e
-  valid_reading e h q = text_reading WellFormed h.0 h.1 ∙ ap (by_tokens source jets) q
+  valid_reading : (e : Result ℕ LexError) → Valid source jets old → (lexing source).answer ≡ e → read_into source jets old ≡ by_tokens source jets e
+  valid_reading e h q = text_reading (Ok tt) h.0 h.1 ∙ ap (by_tokens source jets) q
 
   lexed_reading : (ts : List Token) (r : Parsed (List Line)) → Lexed source jets old ts → lines (checks_of jets) ts ≡ r → read_into source jets old ≡ by_lines source ts r
   lexed_reading ts r h q =
       let l = tiles_lexed h.1 h.2 in
-      valid_reading (Tokens (length ts)) h.0 (ap (λ (l : Lexing). l.answer) l)
+      valid_reading (Ok (length ts)) h.0 (ap (λ (l : Lexing). l.answer) l)
       ∙ ap (λ (l : Lexing). by_lines source l.tokens (lines (checks_of jets) l.tokens)) l
       ∙ ap (by_lines source ts) q
 
@@ -68,9 +69,9 @@ module _ (source jets : List ℕ) (old : Tables) where
   unfolding read_into reading
   when_reading refusal.short_table h = rw h
   when_reading refusal.long_source h = rw (h.0, lt-ltb source_limit (length source) h.1)
-  when_reading (refusal.not_utf8 p) h = text_reading (BadAt p) h.0 h.1
-  when_reading (refusal.no_token p) h = valid_reading (NoToken (record { 0 = p })) h.0 ((no_token_exactly source p).1 h.1)
-  when_reading (refusal.too_many_tokens p) h = valid_reading (TooManyTokens (record { 0 = p })) h.0 ((too_many_exactly source p).1 h.1)
+  when_reading (refusal.not_utf8 p) h = text_reading (Err (BadAt p)) h.0 h.1
+  when_reading (refusal.no_token p) h = valid_reading (Err (NoToken (record { 0 = p }))) h.0 ((no_token_exactly source p).1 h.1)
+  when_reading (refusal.too_many_tokens p) h = valid_reading (Err (TooManyTokens (record { 0 = p }))) h.0 ((too_many_exactly source p).1 h.1)
   when_reading (refusal.parse_failed p) h = stops_reading ParseFailed p h
   when_reading (refusal.bad_word_length p n) h = stops_reading (BadWordLength n) p h
   when_reading (refusal.short_fail p n) h = stops_reading (EntropyInsufficient n) p h
@@ -105,14 +106,14 @@ module _ (source jets : List ℕ) (old : Tables) where
           let p : ℕ = place_of_left (length source) left in
           (refused (refused_at p x), stops_when x p (record { tokens = ts; lexed = h; left = left; first = refl; rule = (refused_event jets ts left x).0 e }))
 
-      lexed : Valid source jets old → (a : LexEnd) → (lexing source).answer ≡ a → (x : Reading) × Condition x
-      lexed h (Tokens n) e = let t = (tokens_exactly source n).0 e in parsed t.0 (h, t.1, omega (arith, t.2, t.3)) (lines (checks_of jets) t.0) refl
-      lexed h (NoToken p) e = (refused (refusal.no_token p.0), (h, (no_token_exactly source p.0).0 e))
-      lexed h (TooManyTokens p) e = (refused (refusal.too_many_tokens p.0), (h, (too_many_exactly source p.0).0 e))
+      lexed : Valid source jets old → (a : Result ℕ LexError) → (lexing source).answer ≡ a → (x : Reading) × Condition x
+      lexed h (Ok n) e = let t = (tokens_exactly source n).0 e in parsed t.0 (h, t.1, omega (arith, t.2, t.3)) (lines (checks_of jets) t.0) refl
+      lexed h (Err (NoToken p)) e = (refused (refusal.no_token p.0), (h, (no_token_exactly source p.0).0 e))
+      lexed h (Err (TooManyTokens p)) e = (refused (refusal.too_many_tokens p.0), (h, (too_many_exactly source p.0).0 e))
 
-      text : Small source jets old → (a : TextAnswer) → Right source a → (x : Reading) × Condition x
-      text h WellFormed r = lexed (h, r) (lexing source).answer refl
-      text h (BadAt p) r = (refused (refusal.not_utf8 p), (h, r))
+      text : Small source jets old → (a : Result (Unit {0}) TextError) → Right source a → (x : Reading) × Condition x
+      text h (Ok _) r = lexed (h, r) (lexing source).answer refl
+      text h (Err (BadAt p)) r = (refused (refusal.not_utf8 p), (h, r))
 
       size : short_to_read old ≡ false → (b : Bool) → ltb source_limit (length source) ≡ b → (x : Reading) × Condition x
       size h true e = (refused refusal.long_source, (h, ltb-true source_limit (length source) e))

@@ -2,15 +2,13 @@
 -- `NoExpr depth front left x`: where an expression is read from the tokens `front ++ left`, all of `front` is accepted, and the
 -- first token of `left`, or the end of source if none is left, is refused with the fault x. So with types, CMRs, lines, files.
 -- Each rule says: what stands before is derived, and the next thing is not to be had. proofs/: the grammar refuses just so.
-use Rattle.std.specs.Prelude.{ℕ, zero, suc, ◌≡◌, false, List, [], ◌∷◌, ◌++◌}
+use Rattle.std.specs.Prelude.{ℕ, zero, suc, ◌≡◌, false, List, [], ◌∷◌, ◌++◌, Err}
 use Rattle.std.proofs.Math.Option.{Option, none, some}
 use Rattle.records.specs.Limits.{depth_limit}
 use Rattle.records.specs.TokenKind as token
 use Rattle.lex.specs.Tokens.{Token}
 use Rattle.checks.specs.declared.Fault.{Fault}
 use Rattle.checks.specs.declared.Fault.TheVariants.{ParseFailed, TooDeep}
-use Rattle.checks.specs.declared.Verdict.TheVariants.{Fails}
-use Rattle.checks.specs.declared.PowerVerdict.TheVariants.{BadPower}
 use Rattle.checks.specs.Checks.{Checks}
 use Rattle.grammar.specs.Tree.{Unary, unary_token, Binary, binary_token, Expr, Cmr, Op, op_token, Ty, Arrow, Line}
 use Rattle.grammar.specs.Rule.{is_of}
@@ -54,7 +52,7 @@ module _ (checks : Checks) where
     -- nothing that begins an atom; a bad power; inside `( )`; no `)`
     pub data NoAtom : (depth : ℕ) → (front left : List Token) → Fault → Type 0 where
       not_atom : {d : ℕ} {left : List Token} → NotNext begin_atom left → NoAtom d [] left ParseFailed
-      power : {d : ℕ} {left : List Token} {x : Fault} (t : Token) → Is token.power t → checks.power t.text ≡ BadPower x → NoAtom d [] (t ∷ left) x
+      power : {d : ℕ} {left : List Token} {x : Fault} (t : Token) → Is token.power t → checks.power t.text ≡ Err x → NoAtom d [] (t ∷ left) x
       group : {d : ℕ} {front left : List Token} {x : Fault} (t : Token) → Is token.lparen t → NoType d front left x → NoAtom d (t ∷ front) left x
       open_group : {d : ℕ} {ts left : List Token} {y : Ty} (t : Token) → Is token.lparen t → IsType checks d ts y → NotNext (token.rparen ∷ goes_on_type) left → NoAtom d (t ∷ ts) left ParseFailed
 
@@ -66,10 +64,10 @@ module _ (checks : Checks) where
       -- no name behind the question mark; no literal behind `const` and `fail`, or one with a bad length; a jet not known
       hole : {d : ℕ} {left : List Token} (t : Token) → Is token.question t → NotNext names left → NoExpr (suc d) (t ∷ []) left ParseFailed
       const : {d : ℕ} {left : List Token} (t : Token) → Is token.const t → NotNext literals left → NoExpr (suc d) (t ∷ []) left ParseFailed
-      word : {d : ℕ} {left : List Token} {x : Fault} (t l : Token) → Is token.const t → OneOf literals l → checks.word l.kind l.text ≡ Fails x → NoExpr (suc d) (t ∷ []) (l ∷ left) x
+      word : {d : ℕ} {left : List Token} {x : Fault} (t l : Token) → Is token.const t → OneOf literals l → checks.word l.kind l.text ≡ Err x → NoExpr (suc d) (t ∷ []) (l ∷ left) x
       fail : {d : ℕ} {left : List Token} (t : Token) → Is token.fail t → NotNext literals left → NoExpr (suc d) (t ∷ []) left ParseFailed
-      entropy : {d : ℕ} {left : List Token} {x : Fault} (t l : Token) → Is token.fail t → OneOf literals l → checks.fail l.kind l.text ≡ Fails x → NoExpr (suc d) (t ∷ []) (l ∷ left) x
-      jet : {d : ℕ} {left : List Token} {x : Fault} (t : Token) → Is token.jet t → checks.jet t.text ≡ Fails x → NoExpr (suc d) [] (t ∷ left) x
+      entropy : {d : ℕ} {left : List Token} {x : Fault} (t l : Token) → Is token.fail t → OneOf literals l → checks.fail l.kind l.text ≡ Err x → NoExpr (suc d) (t ∷ []) (l ∷ left) x
+      jet : {d : ℕ} {left : List Token} {x : Fault} (t : Token) → Is token.jet t → checks.jet t.text ≡ Err x → NoExpr (suc d) [] (t ∷ left) x
       -- inside `( )`; no `)`
       parens : {d : ℕ} {front left : List Token} {x : Fault} (t : Token) → Is token.lparen t → NoExpr d front left x → NoExpr (suc d) (t ∷ front) left x
       open_parens : {d : ℕ} {es left : List Token} {e : Expr} (t : Token) → Is token.lparen t → IsExpr checks d es e → NotNext (token.rparen ∷ []) left → NoExpr (suc d) (t ∷ es) left ParseFailed

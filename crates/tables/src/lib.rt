@@ -8,6 +8,7 @@ ghost use Rattle.std.proofs.lemmas.List.Edits.{sets};
 ghost use Rattle.tables.specs.Tables.{table_of, word_at, written};
 ghost use Rattle.tables.specs.Zeros.{all_zero, zeroed};
 
+use records::Record;
 use records::limits::Limits;
 
 // The lesser of two lengths.
@@ -77,6 +78,14 @@ pub fn write(table: &mut [u32], width: u32, number: u32, words: &[u32])
             words.len().min(width as usize),
         );
     }
+}
+
+// Writes a record; for a number that is none, nothing.
+pub fn write_record<const N: usize, R: Record<N>>(table: &mut [u32], number: u32, row: R)
+    ensures { table.new ≡ written N table.old number (R.words_of row) }
+{
+    let words = row.words();
+    write(table, N as u32, number, &words);
 }
 
 // The part of a table that is looked at before it is set to zero.

@@ -1,18 +1,18 @@
 -- Document 01, refusal 3: what is right, what computes it, and its row.
-use Rattle.std.specs.Prelude.{ℕ, zero, suc, pred, Bool, true, false, ◌&&◌, ◌||◌, List, [], ◌∷◌, length, eqb, if◌then◌else◌}
+use Rattle.std.specs.Prelude.{ℕ, zero, suc, pred, Bool, true, false, ◌&&◌, ◌||◌, List, [], ◌∷◌, length, eqb, if◌then◌else◌, Err, Ok, Result}
 use Rattle.records.specs.Base.{within}
-use Rattle.records.specs.Refusals.{not_utf8, row_of, no_row}
+use Rattle.records.specs.Refusals.{not_utf8, row_of, row_by}
 use Rattle.records.specs.declared.refusals.Refusal.{Refusal}
-use Rattle.text.specs.declared.TextAnswer.{TextAnswer}
-use Rattle.text.specs.declared.TextAnswer.TheVariants.{Valid, BadAt}
+use Rattle.text.specs.declared.TextError.{TextError}
 use Rattle.text.specs.Utf8.{Range, rules, Utf8, BadPlace}
+use Rattle.text.specs.declared.TextError.TheVariants.{BadAt}
 
 -- ---- what is right
 
 -- valid exactly if the bytes are a sequence of characters; else the first byte of the first ill-formed sequence
-abbrev pub Right : List ℕ → TextAnswer → Type 0
-Right s Valid = Utf8 s
-Right s (BadAt n) = BadPlace s n
+abbrev pub Right : List ℕ → Result (Unit {0}) TextError → Type 0
+Right s (Ok _) = Utf8 s
+Right s (Err (BadAt n)) = BadPlace s n
 
 -- ---- the same by computing (proofs/Declared.antt: `check_right`, `right_once`)
 
@@ -36,19 +36,21 @@ unfoldable pub char_len : List ℕ → ℕ
 char_len s = length_by rules s
 
 -- s stands at the offset `at`, and `skip` bytes of a character are still to pass
-unfoldable pub check_from : (at skip : ℕ) → List ℕ → TextAnswer
-check_from at skip [] = Valid
+unfoldable pub check_from : (at skip : ℕ) → List ℕ → Result (Unit {0}) TextError
+check_from at skip [] = Ok tt
 check_from at (suc skip) (b ∷ s) = check_from (suc at) skip s
 check_from at zero (b ∷ s) =
     let n : ℕ = char_len (b ∷ s) in
-    let later : TextAnswer = check_from (suc at) (pred n) s in
-    if eqb n 0 then BadAt at else later
+    let later : Result (Unit {0}) TextError = check_from (suc at) (pred n) s in
+    if eqb n 0 then Err (BadAt at) else later
 
-abbrev pub check_text : (source : List ℕ) → TextAnswer
+abbrev pub check_text : (source : List ℕ) → Result (Unit {0}) TextError
 check_text source = check_from 0 0 source
 
 -- ---- its row
 
-abbrev pub row_of_text : TextAnswer → Refusal
-row_of_text Valid = no_row
-row_of_text (BadAt at) = row_of (not_utf8 at)
+abbrev pub row_of_text_error : TextError → Refusal
+row_of_text_error (BadAt at) = row_of (not_utf8 at)
+
+abbrev pub row_of_text : Result (Unit {0}) TextError → Refusal
+row_of_text a = row_by row_of_text_error a

@@ -3,32 +3,25 @@
 #![tactic(auto)]
 
 ghost use Rattle.std.specs.Prelude.{◌≡◌, [], ◌∷◌, ◌+◌, ◌≤◌, ◌<◌, ◌^◌, length, get_or};
-ghost use Rattle.text.specs.Check.{begins_by, char_len, check_text, row_of_text};
+ghost use Rattle.text.specs.Check.{begins_by, char_len, check_text, row_of_text_error};
 ghost use Rattle.text.specs.Utf8.{utf8_1, utf8_2, utf8_3, utf8_4};
 ghost use Rattle.text.specs.Place.{begins_char, pass, position_of};
 
-use records::refusals::Refusal;
+use records::refusals::{Cause, Refusal};
 
-// What is found of the bytes of a source.
+// Why the bytes of a source are no text.
 #[derive(Clone, Copy)]
-pub enum TextAnswer {
-    Valid,
+pub enum TextError {
     // The first byte of the first ill-formed sequence.
     BadAt(usize),
 }
 
-impl TextAnswer {
-    // The answer as a row of the table of refusals.
-    pub fn row(self) -> Refusal
-        ensures { result ≡ row_of_text self }
-    {
+impl Cause for TextError {
+    ghost row_of = { row_of_text_error };
+
+    fn row(self) -> Refusal {
         match self {
-            TextAnswer::Valid => Refusal {
-                no: Refusal::NONE,
-                value: 0,
-                place: 0,
-            },
-            TextAnswer::BadAt(at) => Refusal {
+            TextError::BadAt(at) => Refusal {
                 no: Refusal::NOT_UTF8,
                 value: 0,
                 place: at,
@@ -110,7 +103,7 @@ fn char_len(s: &[u8]) -> usize
 }
 
 // Whether the bytes are UTF-8, or where they first are not.
-pub fn check_text(source: &[u8]) -> TextAnswer
+pub fn check_text(source: &[u8]) -> Result<(), TextError>
     ensures { result ≡ check_text source.now }
 {
     // No `for` fits: a turn goes as far as its character.
@@ -118,11 +111,11 @@ pub fn check_text(source: &[u8]) -> TextAnswer
     while i < source.len() {
         let n = char_len(&source[i..]);
         if n == 0 {
-            return TextAnswer::BadAt(i);
+            return Err(TextError::BadAt(i));
         }
         i += n;
     }
-    TextAnswer::Valid
+    Ok(())
 }
 
 // A line and a column, both from 1.

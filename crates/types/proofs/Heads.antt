@@ -7,8 +7,6 @@ use Rattle.records.specs.declared.TokenRecord.{TokenRecord}
 use Rattle.lex.specs.Tokens.{Token, record_of}
 use Rattle.matches.specs.Code.{NotIn}
 use Rattle.checks.specs.declared.Fault.TheVariants.{ParseFailed}
-use Rattle.checks.specs.declared.PowerVerdict.{PowerVerdict}
-use Rattle.checks.specs.declared.PowerVerdict.TheVariants.{Power, BadPower}
 use Rattle.literals.specs.Literals.{span_text}
 use Rattle.checks.specs.Checks.{power_verdict, checks_of}
 use Rattle.cursor.specs.declared.Cursor.{Cursor}
@@ -23,6 +21,8 @@ use Rattle.types.specs.declared.TypeInner.TheVariants.{Name, One, Two}
 use Rattle.types.specs.declared.AtomHead.{AtomHead}
 use Rattle.types.specs.declared.AtomHead.TheVariants.{Whole, Absent, Group, Refused as NoAtom}
 use Rattle.types.specs.Answers.{type_record_by, LeafType, power_inner, power_head, HeadAt}
+use Rattle.checks.specs.declared.Fault.{Fault}
+use Rattle.std.specs.Prelude.{Err, Ok, Result}
 
 -- the types of one record
 leaf_one : LeafType tree.one One
@@ -65,10 +65,10 @@ module _ (source jets : List ℕ) (r : TokenRecord) (rest : List Token) (c : Cur
   unfolding type_head choice entry go_on
   head_two e = (tree.two, rw e, leaf_two, refl)
 
-  head_power : (v : PowerVerdict) → r.kind.0 ≡ token.number token.power → power_verdict (span_text source r.span) ≡ v → HeadAt jets t rest c (power_head v r.span.start c)
+  head_power : (v : Result ℕ Fault) → r.kind.0 ≡ token.number token.power → power_verdict (span_text source r.span) ≡ v → HeadAt jets t rest c (power_head v r.span.start c)
   unfolding type_head choice entry go_on
-  head_power (Power n) e f = (power_of n, rw (e, f), leaf_power n, refl)
-  head_power (BadPower x) e f = (x, rw (e, f), refl)
+  head_power (Ok n) e f = (power_of n, rw (e, f), leaf_power n, refl)
+  head_power (Err x) e f = (x, rw (e, f), refl)
 
   pub head_powered : (h : AtomHead) → r.kind.0 ≡ token.number token.power → h ≡ power_head (power_verdict (span_text source r.span)) r.span.start c → HeadAt jets t rest c h
   head_powered h e f = rw f (head_power (power_verdict (span_text source r.span)) e refl)

@@ -15,8 +15,6 @@ use Rattle.tables.specs.Tables.{written}
 use Rattle.lex.specs.Tokens.{Token, record_of}
 use Rattle.checks.specs.declared.Fault.{Fault}
 use Rattle.checks.specs.declared.Fault.TheVariants.{ParseFailed}
-use Rattle.checks.specs.declared.PowerVerdict.{PowerVerdict}
-use Rattle.checks.specs.declared.PowerVerdict.TheVariants.{Power, BadPower}
 use Rattle.cursor.specs.declared.Cursor.{Cursor}
 use Rattle.cursor.specs.declared.ParseRefusal.{ParseRefusal}
 use Rattle.cursor.specs.declared.Ahead.{Ahead}
@@ -38,6 +36,7 @@ use Rattle.types.specs.declared.Op.{Op}
 use Rattle.types.specs.declared.Op.TheVariants.{Sum as Plus, Product as Star}
 use Rattle.types.specs.declared.Operator.TheVariants.{Is, Over}
 use Rattle.types.specs.Answers.{type_record_by, finished, power_head, HeadAt, AtomHeadReads, closed_type, operator_at, operator_read, joined_table, op_inner}
+use Rattle.std.specs.Prelude.{Err, Ok, Result}
 
 -- ---- closing
 
@@ -110,15 +109,15 @@ module _ (o : Op) (l : TypeNo) (old : List ℕ) {p : TypeAnswer} where
 
 -- ---- powers
 
-module _ {v w : PowerVerdict} (at : ByteOffset) (c : Cursor) (e : v ≡ w) where
-  pub power_two : {n : ℕ} → v ≡ Power n → n ≡ 0 → Whole Two c ≡ power_head w at c
+module _ {v w : Result ℕ Fault} (at : ByteOffset) (c : Cursor) (e : v ≡ w) where
+  pub power_two : {n : ℕ} → v ≡ Ok n → n ≡ 0 → Whole Two c ≡ power_head w at c
   power_two f g = rw (← e, f, g)
 
-  pub power_more : (n : ℕ) → v ≡ Power n → ¬ (n ≡ 0) → Whole (TwoTwoN n) c ≡ power_head w at c
+  pub power_more : (n : ℕ) → v ≡ Ok n → ¬ (n ≡ 0) → Whole (TwoTwoN n) c ≡ power_head w at c
   power_more zero f g = absurd (g refl)
   power_more (suc n) f g = rw (← e, f)
 
-  pub power_bad : {x : Fault} → v ≡ BadPower x → NoAtom (record { fault = x; at = at }) ≡ power_head w at c
+  pub power_bad : {x : Fault} → v ≡ Err x → NoAtom (record { fault = x; at = at }) ≡ power_head w at c
   power_bad f = rw (← e, f)
 
 -- ---- what begins at the cursor

@@ -1,6 +1,6 @@
 -- What the code answers for a type that the grammar reads: its number, the cursor behind it and its records in the table; and the
 -- answers of the functions on the way.
-use Rattle.std.specs.Prelude.{ℕ, zero, suc, ◌≡◌, true, List, [], ◌∷◌, map, eqb, length, if◌then◌else◌}
+use Rattle.std.specs.Prelude.{ℕ, zero, suc, ◌≡◌, true, List, [], ◌∷◌, map, eqb, length, if◌then◌else◌, Err, Ok, Result}
 use Rattle.records.specs.Limits.{type_width}
 use Rattle.records.specs.Records.{type_words}
 use Rattle.records.specs.TokenKind as token
@@ -12,8 +12,6 @@ use Rattle.tables.specs.Tables.{written, filled, beyond}
 use Rattle.lex.specs.Tokens.{Token}
 use Rattle.checks.specs.declared.Fault.{Fault}
 use Rattle.checks.specs.declared.Fault.TheVariants.{ParseFailed}
-use Rattle.checks.specs.declared.PowerVerdict.{PowerVerdict}
-use Rattle.checks.specs.declared.PowerVerdict.TheVariants.{Power, BadPower}
 use Rattle.checks.specs.Checks.{checks_of}
 use Rattle.cursor.specs.declared.Cursor.{Cursor}
 use Rattle.cursor.specs.declared.Expected.{Expected}
@@ -77,9 +75,9 @@ abbrev pub power_inner : ℕ → TypeInner
 power_inner zero = Two
 power_inner (suc n) = TwoTwoN (suc n)
 
-abbrev pub power_head : PowerVerdict → ByteOffset → Cursor → AtomHead
-power_head (Power n) at c = Whole (power_inner n) c
-power_head (BadPower x) at c = NoAtom (record { fault = x; at = at })
+abbrev pub power_head : Result ℕ Fault → ByteOffset → Cursor → AtomHead
+power_head (Ok n) at c = Whole (power_inner n) c
+power_head (Err x) at c = NoAtom (record { fault = x; at = at })
 
 -- what the grammar says of an atom's head that begins with the token t, the cursor c standing behind t
 abbrev pub HeadAt : (jets : List ℕ) → (t : Token) → (rest : List Token) → Cursor → AtomHead → Type 0
