@@ -1,25 +1,24 @@
--- What a host is handed for an answer that is an enum: a struct of numbers.
+-- What a host is handed for an answer: a struct of numbers.
 use Rattle.records.specs.declared.Span.{Span}
 use Rattle.lex.specs.Tokens.{row_of_lex, count_of}
 use Rattle.ends.specs.Rows.{row_of_parse, counts_of_parse, row_of_read, counts_of_read}
-use Rattle.ends.specs.declared.ParseAnswer.{ParseAnswer}
-use Rattle.ends.specs.declared.ReadAnswer.{ReadAnswer}
-use Rattle.ends.specs.declared.ListAnswer.{ListAnswer}
-use Rattle.ends.specs.declared.ListAnswer.TheVariants.{Listed, NoRoom}
 use Rattle.answers.specs.declared.LexedRow.{LexedRow}
 use Rattle.answers.specs.declared.ParsedRow.{ParsedRow}
 use Rattle.answers.specs.declared.ReadRow.{ReadRow}
 use Rattle.answers.specs.declared.PartRow.{PartRow}
 use Rattle.answers.specs.declared.ListedRow.{ListedRow}
 use Rattle.lex.specs.declared.LexError.{LexError}
-use Rattle.std.specs.Prelude.{Result}
+use Rattle.std.specs.Prelude.{ℕ, Result, Option, Some, None}
+use Rattle.ends.specs.declared.Counts.{Counts}
+use Rattle.ends.specs.declared.ParseError.{ParseError}
+use Rattle.ends.specs.declared.ReadCounts.{ReadCounts}
 
 -- the row of the table of refusals, and how many tokens there are
 unfoldable pub lexed_row : Result ℕ LexError → LexedRow
 lexed_row a = record { no = (row_of_lex a).no; value = (row_of_lex a).value; place = (row_of_lex a).place; tokens = count_of a }
 
 -- the row of the table of refusals, and how many records there are of each table
-unfoldable pub parsed_row : ParseAnswer → ParsedRow
+unfoldable pub parsed_row : Result Counts ParseError → ParsedRow
 parsed_row a =
     record {
       no = (row_of_parse a).no;
@@ -31,7 +30,7 @@ parsed_row a =
       types = (counts_of_parse a).types;
     }
 
-unfoldable pub read_row : ReadAnswer → ReadRow
+unfoldable pub read_row : Result ReadCounts ParseError → ReadRow
 read_row a =
     record {
       no = (row_of_read a).no;
@@ -51,6 +50,6 @@ abbrev pub part_row : Span → PartRow
 part_row s = record { start = s.start.0; len = s.len }
 
 -- 1 and how many bytes, or 0 and none where there is no room
-unfoldable pub listed_row : ListAnswer → ListedRow
-listed_row (Listed n) = record { listed = 1; len = n }
-listed_row NoRoom = record { listed = 0; len = 0 }
+unfoldable pub listed_row : Option ℕ → ListedRow
+listed_row (Some n) = record { listed = 1; len = n }
+listed_row None = record { listed = 0; len = 0 }

@@ -4,9 +4,9 @@
 ghost use Rattle.std.specs.Prelude.{◌≡◌};
 ghost use Rattle.answers.specs.Rows.{lexed_row, parsed_row, read_row, part_row, listed_row};
 
-use ends::{ListAnswer, ParseAnswer, ReadAnswer};
-use lex::LexAnswer;
-use records::Span;
+use ends::{Counts, ParseError, ReadCounts};
+use lex::LexError;
+use records::{Span, refusals};
 
 // A row of the table of refusals, and how many tokens there are.
 #[repr(C)]
@@ -19,15 +19,15 @@ pub struct LexedRow {
 }
 
 // The lexer's answer as numbers.
-pub fn lexed_row(answer: LexAnswer) -> LexedRow
+pub fn lexed_row(answer: Result<u32, LexError>) -> LexedRow
     ensures { result ≡ lexed_row answer }
 {
-    let row = answer.row();
+    let row = refusals::row(answer);
     LexedRow {
         no: row.no,
         value: row.value,
         place: row.place,
-        tokens: answer.count(),
+        tokens: lex::count(answer),
     }
 }
 
@@ -45,11 +45,11 @@ pub struct ParsedRow {
 }
 
 // The parser's answer as numbers.
-pub fn parsed_row(answer: ParseAnswer) -> ParsedRow
+pub fn parsed_row(answer: Result<Counts, ParseError>) -> ParsedRow
     ensures { result ≡ parsed_row answer }
 {
-    let row = answer.row();
-    let counts = answer.counts();
+    let row = refusals::row(answer);
+    let counts = ends::parse_counts(answer);
     ParsedRow {
         no: row.no,
         value: row.value,
@@ -78,11 +78,11 @@ pub struct ReadRow {
 }
 
 // The reader's answer as numbers.
-pub fn read_row(answer: ReadAnswer) -> ReadRow
+pub fn read_row(answer: Result<ReadCounts, ParseError>) -> ReadRow
     ensures { result ≡ read_row answer }
 {
-    let row = answer.row();
-    let counts = answer.counts();
+    let row = refusals::row(answer);
+    let counts = ends::read_counts(answer);
     let parsed = counts.parsed;
     ReadRow {
         no: row.no,
@@ -126,11 +126,11 @@ pub struct ListedRow {
 }
 
 // The lister's answer as numbers.
-pub fn listed_row(answer: ListAnswer) -> ListedRow
+pub fn listed_row(answer: Option<usize>) -> ListedRow
     ensures { result ≡ listed_row answer }
 {
     match answer {
-        ListAnswer::Listed(len) => ListedRow { listed: 1, len },
-        ListAnswer::NoRoom => ListedRow { listed: 0, len: 0 },
+        Some(len) => ListedRow { listed: 1, len },
+        None => ListedRow { listed: 0, len: 0 },
     }
 }

@@ -1,75 +1,41 @@
 // Arrows: the Rust's `parse_arrow`, over a lent table of types.
 #![tactic(auto)]
 
-ghost use Rattle.std.specs.Prelude.{◌≡◌, List, ℕ, ◌≤◌, length};
+ghost use Rattle.std.specs.Prelude.{List, ℕ, ◌≤◌, length};
 ghost use Rattle.records.specs.Limits.{source_limit};
 ghost use Rattle.checks.specs.Checks.{checks_of};
 ghost use Rattle.cursor.specs.Tokens.{tokens_left};
 ghost use Rattle.cursor.specs.Cursor.{Ready};
 ghost use Rattle.grammar.specs.Grammar.{arrow, perhaps_arrow};
-ghost use Rattle.arrows.specs.Answers.{arrow_to, or_absent, ArrowReads};
+ghost use Rattle.arrows.specs.Answers.{or_absent, ArrowReads};
 
-use cursor::{Cursor, Expected, ParseRefusal};
+use cursor::{Answer, Cursor, Tokens};
 use records::kinds::TokenKind;
 use records::limits::Limits;
 use records::numbers::TypeNo;
-use types::TypeAnswer;
 
-// The two types of an arrow and the cursor behind it; or a refusal.
-#[derive(Clone, Copy)]
-pub enum ArrowAnswer {
-    Read(TypeNo, TypeNo, Cursor),
-    Refused(ParseRefusal),
-}
-
-// The target of an arrow, behind its source.
-fn arrow_to(from: TypeNo, p: TypeAnswer) -> ArrowAnswer
-    ensures { result ≡ arrow_to from p }
+// An arrow: a type, `->` and a type. It answers with the types' numbers.
+pub fn parse_arrow(tokens: Tokens, types: &mut [u32], c: Cursor) -> Answer<(TypeNo, TypeNo)>
+    requires { length tokens.source.now ≤ source_limit }
+    ensures { (jets : List ℕ) → Ready tokens.entry.count c → ArrowReads tokens.entry.source.now tokens.entry.table.now tokens.entry.count c (arrow (checks_of jets) (tokens_left tokens.entry.source.now tokens.entry.table.now tokens.entry.count c.token.0)) result types.old types.new }
 {
-    match p {
-        TypeAnswer::Read(to, c) => ArrowAnswer::Read(from, to, c),
-        TypeAnswer::Refused(x) => ArrowAnswer::Refused(x),
-    }
-}
-
-// An arrow: a type, `->` and a type.
-pub fn parse_arrow(
-    source: &[u8],
-    tokens: &[u32],
-    count: u32,
-    types: &mut [u32],
-    c: Cursor,
-) -> ArrowAnswer
-    requires { length source.now ≤ source_limit }
-    ensures { (jets : List ℕ) → Ready count c → ArrowReads source.now tokens.now count c (arrow (checks_of jets) (tokens_left source.now tokens.now count c.token.0)) result types.old types.new }
-{
-    match types::parse_type(source, tokens, count, types, c, Limits::DEPTH) {
-        TypeAnswer::Refused(x) => ArrowAnswer::Refused(x),
-        TypeAnswer::Read(from, d) => {
-            match cursor::expect(source, tokens, count, TokenKind::ARROW, d) {
-                Expected::Refused(x) => ArrowAnswer::Refused(x),
-                Expected::Passed(f) => {
-                    let p = types::parse_type(source, tokens, count, types, f, Limits::DEPTH);
-                    arrow_to(from, p)
-                }
-            }
-        }
-    }
+    let (from, d) = types::parse_type(tokens, types, c, Limits::DEPTH)?;
+    let f = tokens.expect(TokenKind::ARROW, d)?;
+    let (to, g) = types::parse_type(tokens, types, f, Limits::DEPTH)?;
+    Ok(((from, to), g))
 }
 
 // Perhaps `:` and an arrow; without them both types are absent.
 pub fn parse_optional_arrow(
-    source: &[u8],
-    tokens: &[u32],
-    count: u32,
+    tokens: Tokens,
     types: &mut [u32],
     c: Cursor,
-) -> ArrowAnswer
-    requires { length source.now ≤ source_limit }
-    ensures { (jets : List ℕ) → Ready count c → ArrowReads source.now tokens.now count c (or_absent (perhaps_arrow (checks_of jets) (tokens_left source.now tokens.now count c.token.0))) result types.old types.new }
+) -> Answer<(TypeNo, TypeNo)>
+    requires { length tokens.source.now ≤ source_limit }
+    ensures { (jets : List ℕ) → Ready tokens.entry.count c → ArrowReads tokens.entry.source.now tokens.entry.table.now tokens.entry.count c (or_absent (perhaps_arrow (checks_of jets) (tokens_left tokens.entry.source.now tokens.entry.table.now tokens.entry.count c.token.0))) result types.old types.new }
 {
-    match cursor::expect(source, tokens, count, TokenKind::COLON, c) {
-        Expected::Passed(d) => parse_arrow(source, tokens, count, types, d),
-        Expected::Refused(_) => ArrowAnswer::Read(TypeNo(0), TypeNo(0), c),
+    match tokens.expect(TokenKind::COLON, c) {
+        Ok(d) => parse_arrow(tokens, types, d),
+        Err(_) => Ok(((TypeNo(0), TypeNo(0)), c)),
     }
 }

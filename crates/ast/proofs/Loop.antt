@@ -18,7 +18,7 @@ use Rattle.checks.specs.Checks.{Checks}
 use Rattle.cursor.specs.declared.Cursor.{Cursor}
 use Rattle.cursor.specs.declared.ParseRefusal.{ParseRefusal}
 use Rattle.cursor.specs.Tokens.{tokens_left}
-use Rattle.cursor.specs.Cursor.{refusal_at, next_number, Ready, Reached}
+use Rattle.cursor.specs.Cursor.{refusal_at, next_number, Ready, Reached, Answer}
 use Rattle.cursor.proofs.Laws.{left_length}
 use Rattle.cursor.proofs.Steps.{next_below}
 use Rattle.cursor.proofs.Reached.{reached_none, reached_ready, reached_go}
@@ -31,11 +31,10 @@ use Rattle.grammar.proofs.Sound.{lines_steps}
 use Rattle.grammar.proofs.Takes.{total, expr_records_law, type_records_law, line_records_law, lines_exprs_law, lines_types_law}
 use Rattle.grammar.proofs.Snoc.{lines_exprs_snoc, lines_types_snoc, line_records_snoc}
 use Rattle.exprs.specs.Answers.{expr_rows}
-use Rattle.lines.specs.declared.LineAnswer.{LineAnswer}
-use Rattle.lines.specs.declared.LineAnswer.TheVariants.{Read, Refused}
-use Rattle.ends.specs.declared.ParseEnd.TheVariants.{Lines, Refused as NoLines}
 use Rattle.lines.specs.Answers.{LineReads}
+use Rattle.records.proofs.Pairs.{ok_parts, ok_err, err_same}
 use Rattle.ast.specs.Parsing.{lines_in, end_by}
+use Rattle.std.specs.Prelude.{Err, Ok}
 
 -- ---- totals
 
@@ -101,12 +100,12 @@ module _ (s t : List ℕ) (n : ℕ) (few : n ≤ record_limit) (checks : Checks)
 
     -- ---- the end
 
-    pub going_done : n ≤ c.token.0 → (Lines (record { tokens = n; lines = made; exprs = c.expr.0; types = c.ty.0 }) ≡ end_by (length s) ts (lines checks ts)) × (L ≡ table_of line_width (line_rows (lines_in (lines checks ts))) old_l) × (E ≡ table_of expr_width (expr_rows_of (lines_in (lines checks ts))) old_e) × (T ≡ table_of type_width (type_rows_of (lines_in (lines checks ts))) old_t)
+    pub going_done : n ≤ c.token.0 → (Ok (record { tokens = n; lines = made; exprs = c.expr.0; types = c.ty.0 }) ≡ end_by (length s) ts (lines checks ts)) × (L ≡ table_of line_width (line_rows (lines_in (lines checks ts))) old_l) × (E ≡ table_of expr_width (expr_rows_of (lines_in (lines checks ts))) old_e) × (T ≡ table_of type_width (type_rows_of (lines_in (lines checks ts))) old_t)
     unfolding another
     going_done h =
         let none_left : length g.rest ≡ 0 = ap length (sym g.at.left) ∙ left_length s t n c.token.0 ∙ omega arith in
         let all : lines checks ts ≡ got g.ls [] = g.whole ∙ ended g.rest none_left in
-        let counts : Lines (record { tokens = n; lines = made; exprs = c.expr.0; types = c.ty.0 }) ≡ Lines (record { tokens = length ts; lines = length g.ls; exprs = length (lines_exprs g.ls 0); types = length (lines_types g.ls 0) }) =
+        let counts : Ok (record { tokens = n; lines = made; exprs = c.expr.0; types = c.ty.0 }) ≡ Ok (record { tokens = length ts; lines = length g.ls; exprs = length (lines_exprs g.ls 0); types = length (lines_types g.ls 0) }) =
         rw (left_length s t n 0, g.size, exprs_so_far, types_so_far, lines_exprs_law g.ls 0, lines_types_law g.ls 0) (let z : n - 0 ≡ n = omega arith in rw z) in
         rw all (counts, g.lines_in_law, g.exprs_in, g.types_in)
       where
@@ -130,16 +129,16 @@ module _ (s t : List ℕ) (n : ℕ) (few : n ≤ record_limit) (checks : Checks)
 
       -- ---- a line more
 
-      pub going_on : (r : LineRecord) (d : Cursor) (L' E' T' : List ℕ) (k : ℕ) → LineReads s t n c (line checks (tokens_left s t n c.token.0)) (Read r d) E E' T T' → k ≡ next_number made → L' ≡ written line_width L k (line_words r) → Going d k L' E' T' × (c.token.0 < d.token.0) × (d.token.0 ≤ n)
+      pub going_on : (r : LineRecord) (d : Cursor) (L' E' T' : List ℕ) (k : ℕ) → LineReads s t n c (line checks (tokens_left s t n c.token.0)) (Ok (r, d)) E E' T T' → k ≡ next_number made → L' ≡ written line_width L k (line_words r) → Going d k L' E' T' × (c.token.0 < d.token.0) × (d.token.0 ≤ n)
       unfolding go_on total
       going_on r d L' E' T' k h ek el = go (line checks (tokens_left s t n c.token.0)) line_here h
         where
-          go : (P : Parsed Line) → P ≡ line checks g.rest → LineReads s t n c P (Read r d) E E' T T' → Going d k L' E' T' × (c.token.0 < d.token.0) × (d.token.0 ≤ n)
-          go (stop x q) e h = let z : Read r d ≡ Refused (refusal_at (length s) x q) = h.0 in absurd (let y : ◌≡◌ {A = ℕ} 0 1 = cc in omega arith)
+          go : (P : Parsed Line) → P ≡ line checks g.rest → LineReads s t n c P (Ok (r, d)) E E' T T' → Going d k L' E' T' × (c.token.0 < d.token.0) × (d.token.0 ≤ n)
+          go (stop x q) e h = absurd (ok_err h.0)
           go (got l q) e h =
-              let z : Read r d ≡ Read (line_record l c.expr.0 c.ty.0) h.0 = h.1 in
-              let er : r ≡ line_record l c.expr.0 c.ty.0 = cc in
-              let ed : h.0 ≡ d = cc in
+              let parts = ok_parts h.1 in
+              let er : r ≡ line_record l c.expr.0 c.ty.0 = parts.0 in
+              let ed : h.0 ≡ d = sym parts.1 in
               let to_d : Reached s t n c d q (exprs_of l) (types_in_line l) = subst (λ (i : Cursor). Reached s t n c i q (exprs_of l) (types_in_line l)) ed h.2 in
               let on : c.token.0 < d.token.0 = subst (λ (i : Cursor). c.token.0 < i.token.0) ed h.3 in
               let ls' : List Line = g.ls ++ (l ∷ []) in
@@ -177,7 +176,7 @@ module _ (s t : List ℕ) (n : ℕ) (few : n ≤ record_limit) (checks : Checks)
 
       -- ---- a refusal
 
-      pub going_refused : (x : ParseRefusal) (E' T' : List ℕ) → LineReads s t n c (line checks (tokens_left s t n c.token.0)) (Refused x) E E' T T' → (NoLines x ≡ end_by (length s) ts (lines checks ts)) × (table_of line_width [] L ≡ table_of line_width (line_rows (lines_in (lines checks ts))) old_l) × (table_of expr_width [] E' ≡ table_of expr_width (expr_rows_of (lines_in (lines checks ts))) old_e) × (table_of type_width [] T' ≡ table_of type_width (type_rows_of (lines_in (lines checks ts))) old_t)
+      pub going_refused : (x : ParseRefusal) (E' T' : List ℕ) → LineReads s t n c (line checks (tokens_left s t n c.token.0)) (Err x) E E' T T' → (Err x ≡ end_by (length s) ts (lines checks ts)) × (table_of line_width [] L ≡ table_of line_width (line_rows (lines_in (lines checks ts))) old_l) × (table_of expr_width [] E' ≡ table_of expr_width (expr_rows_of (lines_in (lines checks ts))) old_e) × (table_of type_width [] T' ≡ table_of type_width (type_rows_of (lines_in (lines checks ts))) old_t)
       unfolding go_on line_records lines_exprs lines_types repeat
       going_refused x E' T' h = go (line checks (tokens_left s t n c.token.0)) line_here h
         where
@@ -195,14 +194,13 @@ module _ (s t : List ℕ) (n : ℕ) (few : n ≤ record_limit) (checks : Checks)
           stopped f q [] e i = absurd (omega arith)
           stopped f q (u ∷ r) e i = repeat_stop (another checks) (length r) i
 
-          go : (P : Parsed Line) → P ≡ line checks g.rest → LineReads s t n c P (Refused x) E E' T T' → (NoLines x ≡ end_by (length s) ts (lines checks ts)) × (table_of line_width [] L ≡ table_of line_width (line_rows (lines_in (lines checks ts))) old_l) × (table_of expr_width [] E' ≡ table_of expr_width (expr_rows_of (lines_in (lines checks ts))) old_e) × (table_of type_width [] T' ≡ table_of type_width (type_rows_of (lines_in (lines checks ts))) old_t)
-          go (got l q) e h = let z : Refused x ≡ Read (line_record l c.expr.0 c.ty.0) h.0 = h.1 in absurd (let y : ◌≡◌ {A = ℕ} 0 1 = cc in omega arith)
+          go : (P : Parsed Line) → P ≡ line checks g.rest → LineReads s t n c P (Err x) E E' T T' → (Err x ≡ end_by (length s) ts (lines checks ts)) × (table_of line_width [] L ≡ table_of line_width (line_rows (lines_in (lines checks ts))) old_l) × (table_of expr_width [] E' ≡ table_of expr_width (expr_rows_of (lines_in (lines checks ts))) old_e) × (table_of type_width [] T' ≡ table_of type_width (type_rows_of (lines_in (lines checks ts))) old_t)
+          go (got l q) e h = absurd (ok_err (sym h.1))
           go (stop f q) e h =
-              let z : Refused x ≡ Refused (refusal_at (length s) f q) = h.0 in
-              let ex : x ≡ refusal_at (length s) f q = cc in
+              let ex : x ≡ refusal_at (length s) f q = err_same h.0 in
               let all : lines checks ts ≡ stop f q = g.whole ∙ stopped f q g.rest (ap length (sym g.at.left) ∙ left_length s t n c.token.0) (step_is ∙ ap after (sym e)) in
               rw all (
-                ap NoLines ex,
+                ap Err ex,
                 ap (table_of line_width []) g.lines_in_law ∙ table_again line_width [] old_l (wide_map line_width line_words (λ a. refl) (line_records g.ls 0 0)) few_lines,
                 table_beyond expr_width [] E' E h.1 ∙ ap (table_of expr_width []) g.exprs_in ∙ table_again expr_width [] old_e (wide_map expr_width expr_words (λ a. refl) (lines_exprs g.ls 0)) few_exprs,
                 table_beyond type_width [] T' T h.2 ∙ ap (table_of type_width []) g.types_in ∙ table_again type_width [] old_t (wide_map type_width type_words (λ a. refl) (lines_types g.ls 0)) few_types,
@@ -210,11 +208,11 @@ module _ (s t : List ℕ) (n : ℕ) (few : n ≤ record_limit) (checks : Checks)
 
       -- ---- the same, as the code has it
 
-      pub going_read : (a : LineAnswer) (r : LineRecord) (d : Cursor) (L' E' T' : List ℕ) (k : ℕ) → (Ready n c → LineReads s t n c (line checks (tokens_left s t n c.token.0)) a E E' T T') → a ≡ Read r d → k ≡ next_number made → L' ≡ written line_width L k (line_words r) → Going d k L' E' T' × (c.token.0 < d.token.0) × (d.token.0 ≤ n)
-      going_read a r d L' E' T' k h ea ek el = going_on r d L' E' T' k (subst (λ (i : LineAnswer). LineReads s t n c (line checks (tokens_left s t n c.token.0)) i E E' T T') ea (h ready)) ek el
+      pub going_read : (a : Answer LineRecord) (r : LineRecord) (d : Cursor) (L' E' T' : List ℕ) (k : ℕ) → (Ready n c → LineReads s t n c (line checks (tokens_left s t n c.token.0)) a E E' T T') → a ≡ Ok (r, d) → k ≡ next_number made → L' ≡ written line_width L k (line_words r) → Going d k L' E' T' × (c.token.0 < d.token.0) × (d.token.0 ≤ n)
+      going_read a r d L' E' T' k h ea ek el = going_on r d L' E' T' k (subst (λ (i : Answer LineRecord). LineReads s t n c (line checks (tokens_left s t n c.token.0)) i E E' T T') ea (h ready)) ek el
 
-      pub going_stopped : (a : LineAnswer) (x : ParseRefusal) (E' T' L'' E'' T'' : List ℕ) → (Ready n c → LineReads s t n c (line checks (tokens_left s t n c.token.0)) a E E' T T') → a ≡ Refused x → L'' ≡ table_of line_width [] L → E'' ≡ table_of expr_width [] E' → T'' ≡ table_of type_width [] T'
-          → (NoLines x ≡ end_by (length s) ts (lines checks ts)) × (L'' ≡ table_of line_width (line_rows (lines_in (lines checks ts))) old_l) × (E'' ≡ table_of expr_width (expr_rows_of (lines_in (lines checks ts))) old_e) × (T'' ≡ table_of type_width (type_rows_of (lines_in (lines checks ts))) old_t)
+      pub going_stopped : (a : Answer LineRecord) (x : ParseRefusal) (E' T' L'' E'' T'' : List ℕ) → (Ready n c → LineReads s t n c (line checks (tokens_left s t n c.token.0)) a E E' T T') → a ≡ Err x → L'' ≡ table_of line_width [] L → E'' ≡ table_of expr_width [] E' → T'' ≡ table_of type_width [] T'
+          → (Err x ≡ end_by (length s) ts (lines checks ts)) × (L'' ≡ table_of line_width (line_rows (lines_in (lines checks ts))) old_l) × (E'' ≡ table_of expr_width (expr_rows_of (lines_in (lines checks ts))) old_e) × (T'' ≡ table_of type_width (type_rows_of (lines_in (lines checks ts))) old_t)
       going_stopped a x E' T' L'' E'' T'' h ea el ee et =
-          let g' = going_refused x E' T' (subst (λ (i : LineAnswer). LineReads s t n c (line checks (tokens_left s t n c.token.0)) i E E' T T') ea (h ready)) in
+          let g' = going_refused x E' T' (subst (λ (i : Answer LineRecord). LineReads s t n c (line checks (tokens_left s t n c.token.0)) i E E' T T') ea (h ready)) in
           (g'.0, el ∙ g'.1, ee ∙ g'.2, et ∙ g'.3)

@@ -11,7 +11,7 @@ use Rattle.records.specs.Limits.{source_limit, record_limit, token_width, line_w
 use Rattle.tables.specs.Tables.{table_of}
 use Rattle.tables.proofs.Laws.{table_cleared, table_again, table_length}
 use Rattle.text.specs.Check.{check_text}
-use Rattle.lex.specs.Tokens.{Token, lexing, rows_of, kept, token_table, lex_all, leaves}
+use Rattle.lex.specs.Tokens.{left_by_error, Token, lexing, rows_of, kept, token_table, lex_all, leaves}
 use Rattle.lex.proofs.Going.{rows_wide, rows_length}
 use Rattle.lex.proofs.Tiling.{tiling, tokens_lie, tokens_few}
 use Rattle.checks.specs.Checks.{checks_of}
@@ -21,20 +21,17 @@ use Rattle.grammar.specs.Tree.{Line}
 use Rattle.grammar.specs.Rule.{Parsed, got, stop}
 use Rattle.grammar.specs.Grammar.{lines}
 use Rattle.grammar.specs.Recorded.{line_records, lines_exprs, lines_types, line_rows, expr_rows_of, type_rows_of}
-use Rattle.ast.specs.declared.Lexed.{Lexed}
-use Rattle.ast.specs.declared.Lexed.TheVariants.{Tokens as Count, No}
 use Rattle.cursor.specs.declared.ParseRefusal.{ParseRefusal}
 use Rattle.ends.specs.declared.Counts.{Counts}
-use Rattle.ends.specs.declared.ParseEnd.{ParseEnd}
-use Rattle.ends.specs.declared.ParseEnd.TheVariants.{Lines, Refused}
-use Rattle.ends.specs.declared.ParseAnswer.{ParseAnswer}
-use Rattle.ends.specs.declared.ParseAnswer.TheVariants.{NotLexed, Parsed as WasParsed}
-use Rattle.ast.specs.Parsing.{ParserTables, tables, short_to_parse_by, lexed_by, tokens_kept, tokens_in, lines_in, end_by, parsing, holding_lines, parsed_by, left_by, parse_all, tables_after}
+use Rattle.records.proofs.Pairs.{ok_err}
+use Rattle.lex.proofs.Answers.{lexing_met}
+use Rattle.ast.specs.Parsing.{parsed_of, ParserTables, tables, short_to_parse_by, tokens_kept, tokens_in, lines_in, end_by, parsing, holding_lines, parsed_by, left_by, parse_all, tables_after}
 use Rattle.std.specs.Prelude.{Err, Ok, Result}
 use Rattle.text.specs.declared.TextError.{TextError}
-use Rattle.text.specs.declared.TextError.TheVariants.{BadAt}
 use Rattle.lex.specs.declared.LexError.{LexError}
 use Rattle.lex.specs.declared.LexError.TheVariants.{LongSource, NoToken, NotUtf8, ShortTable, TooManyTokens}
+use Rattle.ends.specs.declared.ParseError.{ParseError}
+use Rattle.ends.specs.declared.ParseError.TheVariants.{NotLexed}
 
 -- ---- room
 
@@ -61,18 +58,18 @@ module _ (source table : List ℕ) (room : record_limit * token_width ≤ length
     where
       go : (b : Bool) → ltb source_limit (length source) ≡ b → (a : Result (Unit {0}) TextError) → check_text source ≡ a → ⊥
       go true h a k = let f : (Err LongSource) ≡ (Err ShortTable) = rw (le-ltb (length table) (record_limit * token_width) room, h) at e in absurd (let z : ◌≡◌ {A = ℕ} 0 1 = cc in omega arith)
-      go false h (Ok _) k = let f : (lexing source).answer ≡ (Err ShortTable) = rw (le-ltb (length table) (record_limit * token_width) room, h, k) at e in absurd (let z : ◌≡◌ {A = ℕ} 0 1 = cc in omega arith)
-      go false h (Err (BadAt at)) k = let f : Err (NotUtf8 (record { 0 = at })) ≡ (Err ShortTable) = rw (le-ltb (length table) (record_limit * token_width) room, h, k) at e in absurd (let z : ◌≡◌ {A = ℕ} 0 1 = cc in omega arith)
+      go false h (Ok _) k = lexing_met source ShortTable (rw (le-ltb (length table) (record_limit * token_width) room, h, k) at e)
+      go false h (Err x) k = let f : Err (NotUtf8 (record { 0 = x.at })) ≡ Err ShortTable = rw (le-ltb (length table) (record_limit * token_width) room, h, k) at e in absurd (let z : ◌≡◌ {A = ℕ} 0 1 = cc in omega arith)
 
-  -- how lexing ended
-  pub lex_ended : (x : Result ℕ LexError) → lex_all source table ≡ x → ((lexing source).answer ≡ x) × (length source ≤ source_limit)
+  -- tokens come from lexing
+  pub lex_ended : (n : ℕ) → lex_all source table ≡ Ok n → ((lexing source).answer ≡ Ok n) × (length source ≤ source_limit)
   unfolding lex_all
-  lex_ended x e = go (ltb source_limit (length source)) refl (check_text source) refl
+  lex_ended n e = go (ltb source_limit (length source)) refl (check_text source) refl
     where
-      go : (b : Bool) → ltb source_limit (length source) ≡ b → (a : Result (Unit {0}) TextError) → check_text source ≡ a → ((lexing source).answer ≡ x) × (length source ≤ source_limit)
-      go true h a k = let f : (Err LongSource) ≡ x = rw (le-ltb (length table) (record_limit * token_width) room, h) at e in absurd (let z : ◌≡◌ {A = ℕ} 0 1 = cc in omega arith)
-      go false h (Ok _) k = let f : (lexing source).answer ≡ x = rw (le-ltb (length table) (record_limit * token_width) room, h, k) at e in (let z : (lexing source).answer ≡ x = cc in z, ltb-false source_limit (length source) h)
-      go false h (Err (BadAt at)) k = let f : Err (NotUtf8 (record { 0 = at })) ≡ x = rw (le-ltb (length table) (record_limit * token_width) room, h, k) at e in absurd (let z : ◌≡◌ {A = ℕ} 0 1 = cc in omega arith)
+      go : (b : Bool) → ltb source_limit (length source) ≡ b → (a : Result (Unit {0}) TextError) → check_text source ≡ a → ((lexing source).answer ≡ Ok n) × (length source ≤ source_limit)
+      go true h a k = absurd (ok_err (sym (rw (le-ltb (length table) (record_limit * token_width) room, h) at e)))
+      go false h (Ok _) k = (rw (le-ltb (length table) (record_limit * token_width) room, h, k) at e, ltb-false source_limit (length source) h)
+      go false h (Err x) k = absurd (ok_err (sym (rw (le-ltb (length table) (record_limit * token_width) room, h, k) at e)))
 
 -- ---- the whole
 
@@ -80,7 +77,7 @@ module _ (source jets ts ls es ty : List ℕ) where
   abbrev old : ParserTables
   old = tables ts ls es ty
 
-  pub too_short : short_to_parse_by (length ts) (length ls) (length es) (length ty) ≡ true → (NotLexed (Err ShortTable) ≡ parse_all source jets old) × (tables ts ls es ty ≡ tables_after source jets old)
+  pub too_short : short_to_parse_by (length ts) (length ls) (length es) (length ty) ≡ true → (Err (NotLexed ShortTable) ≡ parse_all source jets old) × (tables ts ls es ty ≡ tables_after source jets old)
   unfolding parse_all tables_after
   too_short e = (rw e, rw e)
 
@@ -89,41 +86,29 @@ module _ (source jets ts ls es ty : List ℕ) where
     room = has_room (length ts) (length ls) (length es) (length ty) roomy
 
     -- an answer by the lexer's, and the tables by it
-    settled : (a : Result ℕ LexError) (r : ParseAnswer) (new : ParserTables) → lex_all source ts ≡ a → r ≡ parsed_by source jets a → new ≡ left_by source jets old a → (r ≡ parse_all source jets old) × (new ≡ tables_after source jets old)
+    settled : (a : Result ℕ LexError) (r : Result Counts ParseError) (new : ParserTables) → lex_all source ts ≡ a → r ≡ parsed_by source jets a → new ≡ left_by source jets old a → (r ≡ parse_all source jets old) × (new ≡ tables_after source jets old)
     unfolding parse_all tables_after
     settled a r new e f g = (f ∙ rw (roomy, e), g ∙ rw (roomy, e))
 
     -- the source has not lexed
-    pub not_lexed : (a : Result ℕ LexError) (x : Lexed) (ts' ls' es' ty' : List ℕ) → a ≡ lex_all source ts → ts' ≡ leaves (lex_all source ts) source ts → x ≡ lexed_by a → x ≡ No → ls' ≡ table_of line_width [] ls → es' ≡ table_of expr_width [] es → ty' ≡ table_of type_width [] ty
-        → (NotLexed a ≡ parse_all source jets old) × (tables ts' ls' es' ty' ≡ tables_after source jets old)
-    unfolding line_records lines_exprs lines_types token_table
-    not_lexed a x ts' ls' es' ty' ea et ex ey el ee ey' =
+    pub not_lexed : (x : LexError) (ts' ls' es' ty' : List ℕ) → lex_all source ts ≡ Err x → ts' ≡ leaves (lex_all source ts) source ts → ls' ≡ table_of line_width [] ls → es' ≡ table_of expr_width [] es → ty' ≡ table_of type_width [] ty
+        → (Err (NotLexed x) ≡ parse_all source jets old) × (tables ts' ls' es' ty' ≡ tables_after source jets old)
+    unfolding line_records lines_exprs lines_types
+    not_lexed x ts' ls' es' ty' ex et el ee ey' =
         let clean : tables ts' ls' es' ty' ≡ tables ts' (table_of line_width [] ls) (table_of expr_width [] es) (table_of type_width [] ty) = rw (el, ee, ey') in
-        go a (sym ea) (sym ex ∙ ey) (et ∙ ap (λ (q : Result ℕ LexError). leaves q source ts) (sym ea)) clean
+        go x ex (et ∙ ap (λ (q : Result ℕ LexError). leaves q source ts) ex) clean
       where
-        go : (a : Result ℕ LexError) → lex_all source ts ≡ a → lexed_by a ≡ No → ts' ≡ leaves a source ts → tables ts' ls' es' ty' ≡ tables ts' (table_of line_width [] ls) (table_of expr_width [] es) (table_of type_width [] ty) → (NotLexed a ≡ parse_all source jets old) × (tables ts' ls' es' ty' ≡ tables_after source jets old)
-        go (Err ShortTable) e n t k = absurd (lex_roomy source ts room.0 e)
-        go (Err LongSource) e n t k = settled (Err LongSource) (NotLexed (Err LongSource)) (tables ts' ls' es' ty') e refl (k ∙ rw t)
-        go (Err (NotUtf8 at)) e n t k = settled (Err (NotUtf8 at)) (NotLexed (Err (NotUtf8 at))) (tables ts' ls' es' ty') e refl (k ∙ rw t)
-        go (Ok m) e n t k = absurd (let z : ◌≡◌ {A = ℕ} 0 1 = cc in omega arith)
-        go (Err (NoToken at)) e n t k = settled (Err (NoToken at)) (NotLexed (Err (NoToken at))) (tables ts' ls' es' ty') e refl (k ∙ rw (t, (lex_ended source ts room.0 (Err (NoToken at)) e).0))
-        go (Err (TooManyTokens at)) e n t k = settled (Err (TooManyTokens at)) (NotLexed (Err (TooManyTokens at))) (tables ts' ls' es' ty') e refl (k ∙ rw (t, (lex_ended source ts room.0 (Err (TooManyTokens at)) e).0))
+        go : (x : LexError) → lex_all source ts ≡ Err x → ts' ≡ left_by_error x ts → tables ts' ls' es' ty' ≡ tables ts' (table_of line_width [] ls) (table_of expr_width [] es) (table_of type_width [] ty) → (Err (NotLexed x) ≡ parse_all source jets old) × (tables ts' ls' es' ty' ≡ tables_after source jets old)
+        go ShortTable e t k = absurd (lex_roomy source ts room.0 e)
+        go LongSource e t k = settled (Err LongSource) (Err (NotLexed LongSource)) (tables ts' ls' es' ty') e refl (k ∙ rw t)
+        go (NotUtf8 at) e t k = settled (Err (NotUtf8 at)) (Err (NotLexed (NotUtf8 at))) (tables ts' ls' es' ty') e refl (k ∙ rw t)
+        go (NoToken at) e t k = settled (Err (NoToken at)) (Err (NotLexed (NoToken at))) (tables ts' ls' es' ty') e refl (k ∙ rw t)
+        go (TooManyTokens at) e t k = settled (Err (TooManyTokens at)) (Err (NotLexed (TooManyTokens at))) (tables ts' ls' es' ty') e refl (k ∙ rw t)
 
     -- the source has lexed into m tokens
-    module _ (a : Result ℕ LexError) (x : Lexed) (m : ℕ) (ts' : List ℕ) (ea : a ≡ lex_all source ts) (et : ts' ≡ leaves (lex_all source ts) source ts) (ex : x ≡ lexed_by a) (ey : x ≡ Count m) where
-      is_ended : (b : Result ℕ LexError) → lexed_by b ≡ Count m → b ≡ Ok m
-      is_ended (Err ShortTable) e = absurd (let z : ◌≡◌ {A = ℕ} 0 1 = cc in omega arith)
-      is_ended (Err LongSource) e = absurd (let z : ◌≡◌ {A = ℕ} 0 1 = cc in omega arith)
-      is_ended (Err (NotUtf8 at)) e = absurd (let z : ◌≡◌ {A = ℕ} 0 1 = cc in omega arith)
-      is_ended (Ok k) e = ap (λ (i : ℕ). (Ok i)) (let z : k ≡ m = cc in z)
-      is_ended (Err (NoToken at)) e = absurd (let z : ◌≡◌ {A = ℕ} 0 1 = cc in omega arith)
-      is_ended (Err (TooManyTokens at)) e = absurd (let z : ◌≡◌ {A = ℕ} 0 1 = cc in omega arith)
-
-      answered : lex_all source ts ≡ Ok m
-      answered = sym ea ∙ is_ended a (sym ex ∙ ey)
-
+    module _ (m : ℕ) (ts' : List ℕ) (answered : lex_all source ts ≡ Ok m) (et : ts' ≡ leaves (lex_all source ts) source ts) where
       said : ((lexing source).answer ≡ Ok m) × (length source ≤ source_limit)
-      said = lex_ended source ts room.0 (Ok m) answered
+      said = lex_ended source ts room.0 m answered
 
       pub source_short : length source ≤ source_limit
       source_short = said.1
@@ -150,10 +135,10 @@ module _ (source jets ts ls es ty : List ℕ) where
       left_is : tokens_left source ts' m 0 ≡ all
       left_is = ap (λ (q : List ℕ). tokens_left source q m 0) table_is ∙ ap (λ (k : ℕ). tokens_left source (table_of token_width (rows_of all) ts) k 0) (sym size) ∙ left_all source ts all (omega (arith, size, count_few)) (tokens_lie source m said.0).1
 
-      pub lexed : (r : ParseEnd) (new ls' es' ty' : List ℕ) → r ≡ end_by (length source) (tokens_left source ts' m 0) (lines (checks_of jets) (tokens_left source ts' m 0)) → new ≡ tokens_kept (lines (checks_of jets) (tokens_left source ts' m 0)) ts' → ls' ≡ table_of line_width (line_rows (lines_in (lines (checks_of jets) (tokens_left source ts' m 0)))) ls → es' ≡ table_of expr_width (expr_rows_of (lines_in (lines (checks_of jets) (tokens_left source ts' m 0)))) es → ty' ≡ table_of type_width (type_rows_of (lines_in (lines (checks_of jets) (tokens_left source ts' m 0)))) ty
-          → (WasParsed r ≡ parse_all source jets old) × (tables new ls' es' ty' ≡ tables_after source jets old)
+      pub lexed : (r : Result Counts ParseRefusal) (new ls' es' ty' : List ℕ) → r ≡ end_by (length source) (tokens_left source ts' m 0) (lines (checks_of jets) (tokens_left source ts' m 0)) → new ≡ tokens_kept (lines (checks_of jets) (tokens_left source ts' m 0)) ts' → ls' ≡ table_of line_width (line_rows (lines_in (lines (checks_of jets) (tokens_left source ts' m 0)))) ls → es' ≡ table_of expr_width (expr_rows_of (lines_in (lines (checks_of jets) (tokens_left source ts' m 0)))) es → ty' ≡ table_of type_width (type_rows_of (lines_in (lines (checks_of jets) (tokens_left source ts' m 0)))) ty
+          → (parsed_of r ≡ parse_all source jets old) × (tables new ls' es' ty' ≡ tables_after source jets old)
       lexed r new ls' es' ty' er en el ee ey' =
-          settled (Ok m) (WasParsed r) (tables new ls' es' ty') answered (ap WasParsed (er ∙ rw left_is)) (rw (en, el, ee, ey', left_is) (go (parsing source jets)))
+          settled (Ok m) (parsed_of r) (tables new ls' es' ty') answered (ap parsed_of (er ∙ rw left_is)) (rw (en, el, ee, ey', left_is) (go (parsing source jets)))
         where
           P : Parsed (List Line)
           P = parsing source jets
@@ -165,10 +150,10 @@ module _ (source jets ts ls es ty : List ℕ) where
 -- ---- the table of tokens after parsing
 
 module _ (end : ℕ) (us : List Token) (table : List ℕ) where
-  pub kept_read : (P : Parsed (List Line)) (r : ParseEnd) (n : Counts) → r ≡ end_by end us P → r ≡ Lines n → table ≡ tokens_kept P table
+  pub kept_read : (P : Parsed (List Line)) (r : Result Counts ParseRefusal) (n : Counts) → r ≡ end_by end us P → r ≡ Ok n → table ≡ tokens_kept P table
   kept_read (got ls q) r n e f = refl
   kept_read (stop x q) r n e f = absurd (let z : ◌≡◌ {A = ℕ} 0 1 = cc in omega arith)
 
-  pub kept_refused : (P : Parsed (List Line)) (r : ParseEnd) (x : ParseRefusal) (new : List ℕ) → record_limit * token_width ≤ length table → r ≡ end_by end us P → r ≡ Refused x → new ≡ take (length table) (table_of token_width [] table) → new ≡ tokens_kept P table
+  pub kept_refused : (P : Parsed (List Line)) (r : Result Counts ParseRefusal) (x : ParseRefusal) (new : List ℕ) → record_limit * token_width ≤ length table → r ≡ end_by end us P → r ≡ Err x → new ≡ take (length table) (table_of token_width [] table) → new ≡ tokens_kept P table
   kept_refused (got ls q) r x new room e f g = absurd (let z : ◌≡◌ {A = ℕ} 0 1 = cc in omega arith)
   kept_refused (stop y q) r x new room e f g = g ∙ table_cleared token_width table room

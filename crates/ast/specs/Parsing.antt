@@ -10,14 +10,11 @@ use Rattle.grammar.specs.Rule.{Parsed, got, stop}
 use Rattle.grammar.specs.Grammar.{lines}
 use Rattle.grammar.specs.Recorded.{lines_exprs, lines_types, line_rows, expr_rows_of, type_rows_of}
 use Rattle.ends.specs.declared.Counts.{Counts}
-use Rattle.ast.specs.declared.Lexed.{Lexed}
-use Rattle.ast.specs.declared.Lexed.TheVariants.{Tokens as Count, No}
-use Rattle.ends.specs.declared.ParseEnd.{ParseEnd}
-use Rattle.ends.specs.declared.ParseEnd.TheVariants.{Lines, Refused}
-use Rattle.ends.specs.declared.ParseAnswer.{ParseAnswer}
-use Rattle.ends.specs.declared.ParseAnswer.TheVariants.{NotLexed, Parsed as WasParsed}
 use Rattle.lex.specs.declared.LexError.{LexError}
 use Rattle.lex.specs.declared.LexError.TheVariants.{LongSource, NoToken, NotUtf8, ShortTable, TooManyTokens}
+use Rattle.cursor.specs.declared.ParseRefusal.{ParseRefusal}
+use Rattle.ends.specs.declared.ParseError.{ParseError}
+use Rattle.ends.specs.declared.ParseError.TheVariants.{NotLexed, Refused}
 
 -- ---- what was read
 
@@ -30,9 +27,9 @@ abbrev pub counts_of_lines : List Token → List Line → Counts
 counts_of_lines ts ls = record { tokens = length ts; lines = length ls; exprs = length (lines_exprs ls 0); types = length (lines_types ls 0) }
 
 -- how the parsing of tokens ends; `end` is end of source as a place
-abbrev pub end_by : (end : ℕ) → List Token → Parsed (List Line) → ParseEnd
-end_by end ts (got ls rest) = Lines (counts_of_lines ts ls)
-end_by end ts (stop x rest) = Refused (refusal_at end x rest)
+abbrev pub end_by : (end : ℕ) → List Token → Parsed (List Line) → Result Counts ParseRefusal
+end_by end ts (got ls rest) = Ok (counts_of_lines ts ls)
+end_by end ts (stop x rest) = Err (refusal_at end x rest)
 
 -- the table of tokens: a refusal sets its records to zero
 abbrev pub tokens_kept : Parsed (List Line) → (table : List ℕ) → List ℕ
@@ -79,23 +76,15 @@ holding_lines ts ls old =
       types = table_of type_width (type_rows_of ls) old.types;
     }
 
--- how many tokens there are, if the source has lexed
-abbrev pub lexed_by : Result ℕ LexError → Lexed
-lexed_by (Err ShortTable) = No
-lexed_by (Err LongSource) = No
-lexed_by (Err (NotUtf8 at)) = No
-lexed_by (Ok n) = Count n
-lexed_by (Err (NoToken at)) = No
-lexed_by (Err (TooManyTokens at)) = No
+-- the grammar's refusal is why a source is not parsed
+abbrev pub parsed_of : Result Counts ParseRefusal → Result Counts ParseError
+parsed_of (Ok n) = Ok n
+parsed_of (Err r) = Err (Refused r)
 
 -- what is answered once the source is lexed: 6 to 13 only when the whole source has lexed
-abbrev pub parsed_by : (source jets : List ℕ) → Result ℕ LexError → ParseAnswer
-parsed_by source jets (Ok n) = WasParsed (end_by (length source) (lexing source).tokens (parsing source jets))
-parsed_by source jets (Err (NoToken at)) = NotLexed (Err (NoToken at))
-parsed_by source jets (Err (TooManyTokens at)) = NotLexed (Err (TooManyTokens at))
-parsed_by source jets (Err ShortTable) = NotLexed (Err ShortTable)
-parsed_by source jets (Err LongSource) = NotLexed (Err LongSource)
-parsed_by source jets (Err (NotUtf8 at)) = NotLexed (Err (NotUtf8 at))
+abbrev pub parsed_by : (source jets : List ℕ) → Result ℕ LexError → Result Counts ParseError
+parsed_by source jets (Ok n) = parsed_of (end_by (length source) (lexing source).tokens (parsing source jets))
+parsed_by source jets (Err e) = Err (NotLexed e)
 
 -- refusal 1 changes no word; 2 to 13 set the records to zero
 abbrev pub left_by : (source jets : List ℕ) → ParserTables → Result ℕ LexError → ParserTables
@@ -109,7 +98,7 @@ left_by source jets old (Err (NotUtf8 at)) = holding_lines [] [] old
 abbrev pub lex_answer : (source : List ℕ) → ParserTables → Result ℕ LexError
 lex_answer source old = if short_to_parse old then Err ShortTable else lex_all source old.tokens
 
-unfoldable pub parse_all : (source jets : List ℕ) → ParserTables → ParseAnswer
+unfoldable pub parse_all : (source jets : List ℕ) → ParserTables → Result Counts ParseError
 parse_all source jets old = parsed_by source jets (lex_answer source old)
 
 unfoldable pub tables_after : (source jets : List ℕ) → ParserTables → ParserTables

@@ -3,28 +3,19 @@
 
 ghost use Rattle.std.specs.Prelude.{◌≡◌, [], ◌*◌, ◌≤◌, length};
 ghost use Rattle.records.specs.Limits.{source_limit, record_limit, token_width, line_width, expr_width, type_width};
-ghost use Rattle.tables.specs.Tables.{table_of, written};
-ghost use Rattle.records.specs.Records.{line_words};
+ghost use Rattle.tables.specs.Tables.{table_of};
 ghost use Rattle.checks.specs.Checks.{checks_of};
 ghost use Rattle.cursor.specs.Tokens.{tokens_left};
 ghost use Rattle.grammar.specs.Grammar.{lines as lines_of};
 ghost use Rattle.grammar.specs.Recorded.{line_rows, expr_rows_of, type_rows_of};
-ghost use Rattle.ast.specs.Parsing.{tables, short_to_parse_by, lexed_by, tokens_kept, lines_in, end_by, parse_all, tables_after};
+ghost use Rattle.ast.specs.Parsing.{tables, short_to_parse_by, tokens_kept, lines_in, end_by, parse_all, tables_after};
 
-use cursor::Cursor;
-use ends::{Counts, ParseAnswer, ParseEnd};
-use lex::{LexAnswer, LexEnd};
-use lines::LineAnswer;
+use cursor::{Cursor, ParseRefusal, Tokens};
+use ends::{Counts, ParseError};
+use lex::LexError;
 use records::limits::Limits;
 use records::numbers::{ExprNo, TokenNo, TypeNo};
 use records::{ExprRecord, LineRecord, TokenRecord, TypeRecord};
-
-// How many tokens there are, if the source has lexed.
-#[derive(Clone, Copy)]
-pub enum Lexed {
-    Tokens(u32),
-    No,
-}
 
 // Words of a table of tokens, lines, expressions and types.
 const TOKEN_TABLE: usize = Limits::RECORDS as usize * TokenRecord::WORDS as usize;
@@ -34,14 +25,6 @@ const LINE_TABLE: usize = Limits::RECORDS as usize * LineRecord::WORDS as usize;
 const EXPR_TABLE: usize = Limits::RECORDS as usize * ExprRecord::WORDS as usize;
 
 const TYPE_TABLE: usize = Limits::RECORDS as usize * TypeRecord::WORDS as usize;
-
-// Writes the record of a line.
-fn put_line(lines: &mut [u32], number: u32, line: LineRecord)
-    ensures { lines.new ≡ written line_width lines.old number (line_words line) }
-{
-    let words = line.words();
-    tables::write(lines, LineRecord::WORDS, number, &words);
-}
 
 // Sets the records of the tables of lines, expressions and types, which have room, to zero.
 fn clear_parsed(lines: &mut [u32], exprs: &mut [u32], types: &mut [u32])
@@ -58,19 +41,17 @@ fn clear_parsed(lines: &mut [u32], exprs: &mut [u32], types: &mut [u32])
 // Parses tokens into tables of lines, expressions and types. It asks for what the layers above have tested: refusals 1 and 2, and
 // the count of tokens.
 pub fn parse_tokens(
-    source: &[u8],
     jets: &[u8],
-    tokens: &[u32],
-    count: u32,
+    tokens: Tokens,
     lines: &mut [u32],
     exprs: &mut [u32],
     types: &mut [u32],
-) -> ParseEnd
-    requires { (length source.now ≤ source_limit) × (count ≤ record_limit) × (record_limit * line_width ≤ length lines.old) × (record_limit * expr_width ≤ length exprs.old) × (record_limit * type_width ≤ length types.old) }
-    ensures answer { result ≡ end_by (length source.now) (tokens_left source.now tokens.now count 0) (lines_of (checks_of jets.now) (tokens_left source.now tokens.now count 0)) }
-    ensures lines { lines.new ≡ table_of line_width (line_rows (lines_in (lines_of (checks_of jets.now) (tokens_left source.now tokens.now count 0)))) lines.old }
-    ensures exprs { exprs.new ≡ table_of expr_width (expr_rows_of (lines_in (lines_of (checks_of jets.now) (tokens_left source.now tokens.now count 0)))) exprs.old }
-    ensures types { types.new ≡ table_of type_width (type_rows_of (lines_in (lines_of (checks_of jets.now) (tokens_left source.now tokens.now count 0)))) types.old }
+) -> Result<Counts, ParseRefusal>
+    requires { (length tokens.source.now ≤ source_limit) × (tokens.count ≤ record_limit) × (record_limit * line_width ≤ length lines.old) × (record_limit * expr_width ≤ length exprs.old) × (record_limit * type_width ≤ length types.old) }
+    ensures answer { result ≡ end_by (length tokens.entry.source.now) (tokens_left tokens.entry.source.now tokens.entry.table.now tokens.entry.count 0) (lines_of (checks_of jets.now) (tokens_left tokens.entry.source.now tokens.entry.table.now tokens.entry.count 0)) }
+    ensures lines { lines.new ≡ table_of line_width (line_rows (lines_in (lines_of (checks_of jets.now) (tokens_left tokens.entry.source.now tokens.entry.table.now tokens.entry.count 0)))) lines.old }
+    ensures exprs { exprs.new ≡ table_of expr_width (expr_rows_of (lines_in (lines_of (checks_of jets.now) (tokens_left tokens.entry.source.now tokens.entry.table.now tokens.entry.count 0)))) exprs.old }
+    ensures types { types.new ≡ table_of type_width (type_rows_of (lines_in (lines_of (checks_of jets.now) (tokens_left tokens.entry.source.now tokens.entry.table.now tokens.entry.count 0)))) types.old }
 {
     clear_parsed(lines, exprs, types);
     let mut c = Cursor {
@@ -79,41 +60,25 @@ pub fn parse_tokens(
         ty: TypeNo(0),
     };
     let mut made: u32 = 0;
-    while c.token.0 < count {
-        match lines::parse_line(source, jets, tokens, count, exprs, types, c) {
-            LineAnswer::Read(line, d) => {
+    while c.token.0 < tokens.count {
+        match lines::parse_line(jets, tokens, exprs, types, c) {
+            Ok((line, d)) => {
                 made = cursor::next_number(made);
-                put_line(lines, made, line);
+                tables::write_record(lines, made, line);
                 c = d;
             }
-            LineAnswer::Refused(x) => {
+            Err(refusal) => {
                 clear_parsed(lines, exprs, types);
-                return ParseEnd::Refused(x);
+                return Err(refusal);
             }
         }
     }
-    ParseEnd::Lines(Counts {
-        tokens: count,
+    Ok(Counts {
+        tokens: tokens.count,
         lines: made,
         exprs: c.expr.0,
         types: c.ty.0,
     })
-}
-
-// The tokens of a source that has lexed.
-fn tokens_of(answer: LexAnswer) -> Lexed
-    ensures { result ≡ lexed_by answer }
-{
-    match answer {
-        LexAnswer::ShortTable => Lexed::No,
-        LexAnswer::LongSource => Lexed::No,
-        LexAnswer::NotUtf8(_) => Lexed::No,
-        LexAnswer::Ended(end) => match end {
-            LexEnd::Tokens(n) => Lexed::Tokens(n),
-            LexEnd::NoToken(_) => Lexed::No,
-            LexEnd::TooManyTokens(_) => Lexed::No,
-        },
-    }
 }
 
 // Whether a table of so many words is too short for its records.
@@ -132,7 +97,7 @@ fn parse_lexed(
     lines: &mut [u32],
     exprs: &mut [u32],
     types: &mut [u32],
-) -> ParseEnd
+) -> Result<Counts, ParseRefusal>
     requires { (length source.now ≤ source_limit) × (count ≤ record_limit) × (record_limit * token_width ≤ length tokens.old) × (record_limit * line_width ≤ length lines.old) × (record_limit * expr_width ≤ length exprs.old) × (record_limit * type_width ≤ length types.old) }
     ensures answer { result ≡ end_by (length source.now) (tokens_left source.now tokens.old count 0) (lines_of (checks_of jets.now) (tokens_left source.now tokens.old count 0)) }
     ensures tokens { tokens.new ≡ tokens_kept (lines_of (checks_of jets.now) (tokens_left source.now tokens.old count 0)) tokens.old }
@@ -140,12 +105,16 @@ fn parse_lexed(
     ensures exprs { exprs.new ≡ table_of expr_width (expr_rows_of (lines_in (lines_of (checks_of jets.now) (tokens_left source.now tokens.old count 0)))) exprs.old }
     ensures types { types.new ≡ table_of type_width (type_rows_of (lines_in (lines_of (checks_of jets.now) (tokens_left source.now tokens.old count 0)))) types.old }
 {
-    let end = parse_tokens(source, jets, tokens, count, lines, exprs, types);
-    match end {
-        ParseEnd::Lines(_) => end,
-        ParseEnd::Refused(_) => {
+    let lexed = Tokens {
+        source,
+        table: tokens,
+        count,
+    };
+    match parse_tokens(jets, lexed, lines, exprs, types) {
+        Ok(counts) => Ok(counts),
+        Err(refusal) => {
             tables::clear(tokens, TokenRecord::WORDS);
-            end
+            Err(refusal)
         }
     }
 }
@@ -158,21 +127,21 @@ pub fn parse_line_vector(
     lines: &mut [u32],
     exprs: &mut [u32],
     types: &mut [u32],
-) -> ParseAnswer
+) -> Result<Counts, ParseError>
     ensures answer { result ≡ parse_all source.now jets.now (tables tokens.old lines.old exprs.old types.old) }
     ensures tables { tables tokens.new lines.new exprs.new types.new ≡ tables_after source.now jets.now (tables tokens.old lines.old exprs.old types.old) }
 {
     if is_short(tokens.len(), lines.len(), exprs.len(), types.len()) {
-        return ParseAnswer::NotLexed(LexAnswer::ShortTable);
+        return Err(ParseError::NotLexed(LexError::ShortTable));
     }
-    let answer = lex::lex_all(source, tokens);
-    match tokens_of(answer) {
-        Lexed::No => {
-            clear_parsed(lines, exprs, types);
-            ParseAnswer::NotLexed(answer)
+    match lex::lex_all(source, tokens) {
+        Ok(count) => {
+            let counts = parse_lexed(source, jets, tokens, count, lines, exprs, types)?;
+            Ok(counts)
         }
-        Lexed::Tokens(count) => ParseAnswer::Parsed(parse_lexed(
-            source, jets, tokens, count, lines, exprs, types,
-        )),
+        Err(error) => {
+            clear_parsed(lines, exprs, types);
+            Err(ParseError::NotLexed(error))
+        }
     }
 }

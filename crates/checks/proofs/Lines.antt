@@ -130,13 +130,17 @@ module _ (name jets : List ℕ) (from end : ℕ) (r : Bool) (e : is_later name (
 pub listed_last : (name jets : List ℕ) (at : ℕ) (r : Bool) → is_later name (drop at jets) ≡ r || is_later name (drop (length jets) jets) → is_later name (drop at jets) ≡ r
 listed_last name jets at r e = e ∙ rw (later_end name jets (length jets) (omega arith), or-false)
 
+-- what stands behind the first k bytes, as the code takes it
+pub prefix_rest : (k : ℕ) (s : List ℕ) (at : ℕ) → at ≡ min k (length s) → take (length s - at) (drop at s) ≡ drop k s
+prefix_rest k s at a = part_rest s at ∙ ⊎_elim {C = drop at s ≡ drop k s} long short (lt_or_le k (length s))
+  where
+    long : k < length s → drop at s ≡ drop k s
+    long h = let e : at ≡ k = omega arith in rw e
+
+    short : length s ≤ k → drop at s ≡ drop k s
+    short h = let e : length s ≤ at = omega arith in drop_of_length-le s e ∙ sym (drop_of_length-le s h)
+
 -- the name that the code takes of a jet's text
 pub known_listed : (jets text : List ℕ) (at : ℕ) (r : Bool) → at ≡ min 4 (length text) → r ≡ is_one_of (take (length text - at) (drop at text)) (pieces jets) → known jets text ≡ r
 unfolding known
-known_listed jets text at r a e = sym (e ∙ rw (part_rest text at, ⊎_elim {C = drop at text ≡ drop 4 text} long short (lt_or_le 4 (length text))))
-  where
-    long : 4 < length text → drop at text ≡ drop 4 text
-    long h = let k : at ≡ 4 = omega arith in rw k
-
-    short : length text ≤ 4 → drop at text ≡ drop 4 text
-    short h = let k : length text ≤ at = omega arith in drop_of_length-le text k ∙ sym (drop_of_length-le text h)
+known_listed jets text at r a e = sym (e ∙ rw (prefix_rest 4 text at a))

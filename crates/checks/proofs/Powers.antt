@@ -12,6 +12,8 @@ use lib.ListN.{length, drop, get_or, drop_of_length-le}
 use lib.Seq.{drop-cons}
 use borrow.Author.Tests.{eq-eqb, ne_eqb, eqb-true, eqb-false, lt-ltb, le-ltb, ltb-true, ltb-false}
 use Rattle.checks.specs.declared.Fault.TheVariants.{NumberOutOfRange}
+use Rattle.std.specs.Option.{ok_or}
+use Rattle.checks.specs.declared.Fault.TheVariants.{Bad2ExpNumber}
 use Rattle.checks.specs.Powers.{log2, RightLog2, number_from, exponent_of}
 use Rattle.checks.specs.Checks.{power_by, power_verdict}
 use Rattle.checks.specs.Code.{exponent_cap, capped}
@@ -89,6 +91,11 @@ module _ (text : List ℕ) (i n : ℕ) where
   pub exponent_end : length text ≤ i → n ≤ exponent_cap → capped (number_from n (drop i text)) ≡ n
   unfolding number_from capped
   exponent_end h k = rw (drop_of_length-le text h) (omega arith)
+
+-- a logarithm that is missing is the number's fault
+pub power_found : (e : ℕ) (l : Option ℕ) → ok_or l (Bad2ExpNumber e) ≡ power_by e l
+power_found e None = refl
+power_found e (Some n) = refl
 
 -- e is the exponent up to the cap
 module _ (text : List ℕ) (e : ℕ) (q : e ≡ capped (exponent_of text)) where

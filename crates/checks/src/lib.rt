@@ -95,9 +95,7 @@ fn exact_log2(bound: u32, n: u32) -> Option<u32>
     requires { bound ≤ 32 }
     ensures { result ≡ log_of bound n }
 {
-    let mut k = bound;
-    while 0 < k {
-        k -= 1;
+    for k in (0..bound).rev() {
         if n == power_of_two(k) {
             return Some(k);
         }
@@ -157,12 +155,10 @@ fn is_later(jets: &[u8], from: usize, end: usize, name: &[u8]) -> bool
     requires { (from ≤ end) × (end ≤ length jets.now) }
     ensures { is_later name.now (drop from jets.now) ≡ result || is_later name.now (drop end jets.now) }
 {
-    let mut i = from;
-    while i < end {
+    for i in from..end {
         if follows(jets, i, name) {
             return true;
         }
-        i += 1;
     }
     false
 }
@@ -192,15 +188,13 @@ fn any_edged(jets: &[u8], at: usize, m: usize, first: u8, last: u8) -> bool
     ensures { result ≡ any_edged jets.now m first last at block_size }
 {
     let mut any = false;
-    let mut k: usize = 0;
-    while k < BLOCK {
+    for k in 0..BLOCK {
         let i = at + k;
         any = any
             | ((jets[i] == b'\n')
                 & (jets[i + 1] == first)
                 & (jets[i + m] == last)
                 & (jets[i + m + 1] == b'\n'));
-        k += 1;
     }
     any
 }
@@ -242,8 +236,7 @@ fn is_listed(jets: &[u8], name: &[u8]) -> bool
 pub fn check_jet(jets: &[u8], text: &[u8]) -> Result<(), Fault>
     ensures { result ≡ jet_verdict jets.now text.now }
 {
-    let at = tables::lesser(JET_PREFIX, text.len());
-    if is_listed(jets, &text[at..]) {
+    if is_listed(jets, &text[JET_PREFIX.min(text.len())..]) {
         Ok(())
     } else {
         Err(Fault::UnknownJet)
@@ -255,8 +248,8 @@ fn push_digit(n: usize, d: u8) -> usize
     requires { n ≤ exponent_cap }
     ensures { result ≡ capped (10 * n + (d - 48)) }
 {
-    let next = RADIX_10 * n + literals::saturating_sub(d, DIGIT_BASE) as usize;
-    tables::lesser(next, EXPONENT_CAP)
+    let next = RADIX_10 * n + d.saturating_sub(DIGIT_BASE) as usize;
+    next.min(EXPONENT_CAP)
 }
 
 // The exponent behind `2^`, which may have any number of digits: its value if that is below the cap.
@@ -264,10 +257,8 @@ fn exponent(text: &[u8]) -> usize
     ensures { result ≡ capped (exponent_of text.now) }
 {
     let mut n: usize = 0;
-    let mut i = EXPONENT_PREFIX;
-    while i < text.len() {
-        n = push_digit(n, text[i]);
-        i += 1;
+    for d in &text[EXPONENT_PREFIX.min(text.len())..] {
+        n = push_digit(n, *d);
     }
     n
 }
@@ -281,8 +272,5 @@ pub fn check_power(text: &[u8]) -> Result<u32, Fault>
         return Err(Fault::NumberOutOfRange);
     }
     let e = e as u32;
-    match exact_log2(POWER_BOUND, e) {
-        Some(n) => Ok(n),
-        None => Err(Fault::Bad2ExpNumber(e)),
-    }
+    exact_log2(POWER_BOUND, e).ok_or(Fault::Bad2ExpNumber(e))
 }

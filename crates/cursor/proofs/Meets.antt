@@ -9,13 +9,13 @@ use Rattle.lex.specs.Tokens.{Token}
 use Rattle.checks.specs.declared.Fault.TheVariants.{ParseFailed}
 use Rattle.grammar.specs.Rule.{got, stop, one_of, expect}
 use Rattle.cursor.specs.declared.Cursor.{Cursor}
-use Rattle.cursor.specs.declared.Expected.TheVariants.{Passed, Refused}
 use Rattle.cursor.specs.Cursor.{refusal_at, stepped, expected}
+use Rattle.std.specs.Prelude.{Err, Ok}
 
 -- the token comes, and both pass it; or both refuse what comes
 pub data Meets (end : ℕ) (k : token.Kind) (c : Cursor) (ts : List Token) : Type 0 where
-  passes : (u : Token) (rest : List Token) → ts ≡ u ∷ rest → expect k ts ≡ got u rest → expected end c (token.number k) ts ≡ Passed (stepped c) → Meets end k c ts
-  refuses : expect k ts ≡ stop ParseFailed ts → expected end c (token.number k) ts ≡ Refused (refusal_at end ParseFailed ts) → Meets end k c ts
+  passes : (u : Token) (rest : List Token) → ts ≡ u ∷ rest → expect k ts ≡ got u rest → expected end c (token.number k) ts ≡ Ok (stepped c) → Meets end k c ts
+  refuses : expect k ts ≡ stop ParseFailed ts → expected end c (token.number k) ts ≡ Err (refusal_at end ParseFailed ts) → Meets end k c ts
 
 pub meets : (end : ℕ) (k : token.Kind) (c : Cursor) (ts : List Token) → Meets end k c ts
 unfolding one_of expected

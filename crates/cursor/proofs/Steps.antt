@@ -1,5 +1,5 @@
 -- What each function of the cursor answers, by the tests that came before it. Assumes nothing.
-use Rattle.std.specs.Prelude.{if◌then◌else◌}
+use Rattle.std.specs.Prelude.{if◌then◌else◌, Err, None, Ok, Option, Some}
 use Prim.Native.Nat.{ℕ, ◌+◌, ◌-◌, ◌≤◌, ◌<◌}
 use mathlib.Core.Path.{◌≡◌, refl, sym, ap, ◌∙◌}
 use mathlib.Core.List.{List, [], ◌∷◌}
@@ -7,7 +7,7 @@ use native.Mathlib.Omega.{arith}
 use lib.ListN.{length, take, drop}
 use lib.Dec.{eqb, leb}
 use mathlib.Core.Bool.{Bool, true, false, ◌||◌}
-use borrow.Author.Tests.{eq-eqb, ne_eqb, le-leb, lt-leb, lt-ltb, le-ltb}
+use borrow.Author.Tests.{le-leb, lt-leb, lt-ltb, le-ltb}
 use Rattle.records.specs.Limits.{record_limit, token_width}
 use Rattle.records.specs.TokenKind as token
 use Rattle.records.specs.declared.kinds.TokenKind.{TokenKind}
@@ -23,11 +23,10 @@ use Rattle.grammar.specs.Rule.{is_of}
 use Rattle.grammar.specs.Grammar.{names}
 use Rattle.cursor.specs.declared.Cursor.{Cursor}
 use Rattle.cursor.specs.declared.ParseRefusal.{ParseRefusal}
-use Rattle.cursor.specs.declared.Ahead.{Ahead}
-use Rattle.cursor.specs.declared.Ahead.TheVariants.{Next, End}
-use Rattle.cursor.specs.declared.Expected.TheVariants.{Passed, Refused}
 use Rattle.cursor.specs.Tokens.{token_at, token_of_kind, tokens_left}
-use Rattle.cursor.specs.Cursor.{next_number, place_of_left, refusal_at, stepped, peeked, expected}
+use Rattle.cursor.specs.Cursor.{Answer, closed, next_number, place_of_left, refusal_at, stepped, peeked, expected}
+use Rattle.std.specs.Prelude.{nat_eq, Result}
+use Rattle.records.proofs.Pairs.{some_parts}
 use Rattle.cursor.proofs.Laws.{text_length, left_none, left_next}
 
 -- a refusal, by its place
@@ -48,42 +47,62 @@ module _ (source tokens : List ℕ) where
     place_next h e = rw (left_next source tokens n p h) e
 
   module _ (n : ℕ) (c : Cursor) where
-    pub peek_end : n ≤ c.token.0 → End ≡ peeked c (tokens_left source tokens n c.token.0)
+    pub peek_end : n ≤ c.token.0 → None ≡ peeked c (tokens_left source tokens n c.token.0)
     peek_end h = rw (left_none source tokens n c.token.0 h)
 
-    pub peek_next : {r : TokenRecord} → c.token.0 < n → r ≡ record_of (token_at source tokens (c.token.0 + 1)) → Next r (stepped c) ≡ peeked c (tokens_left source tokens n c.token.0)
+    pub peek_next : {r : TokenRecord} → c.token.0 < n → r ≡ record_of (token_at source tokens (c.token.0 + 1)) → Some (r, (stepped c)) ≡ peeked c (tokens_left source tokens n c.token.0)
     peek_next h e = rw (left_next source tokens n c.token.0 h, e)
 
 -- what is ahead says whether a token is left, and which
-module _ (c : Cursor) (a : Ahead) where
-  pub ahead_end : (ts : List Token) → a ≡ peeked c ts → a ≡ End → ts ≡ []
+module _ (c : Cursor) (a : Option (TokenRecord × Cursor)) where
+  pub ahead_end : (ts : List Token) → a ≡ peeked c ts → a ≡ None → ts ≡ []
   ahead_end [] e f = refl
-  ahead_end (t ∷ ts) e f = let z : Next (record_of t) (stepped c) ≡ End = sym e ∙ f in let y : ◌≡◌ {A = ℕ} 0 1 = cc in absurd (omega arith)
+  ahead_end (t ∷ ts) e f =
+      let z : ◌≡◌ {A = Option (TokenRecord × Cursor)} (Some (record_of t, stepped c)) None = sym e ∙ f in
+      let y : ◌≡◌ {A = ℕ} 0 1 = cc in
+      absurd (omega arith)
 
-  pub ahead_next : (ts : List Token) (r : TokenRecord) (b : Cursor) → a ≡ peeked c ts → a ≡ Next r b → (t : Token) × (rest : List Token) × (ts ≡ t ∷ rest) × (r ≡ record_of t) × (b ≡ stepped c)
-  ahead_next [] r b e f = let z : End ≡ Next r b = sym e ∙ f in let y : ◌≡◌ {A = ℕ} 0 1 = cc in absurd (omega arith)
-  ahead_next (t ∷ ts) r b e f = let z : Next (record_of t) (stepped c) ≡ Next r b = sym e ∙ f in (t, ts, refl, cc, cc)
+  pub ahead_next : (ts : List Token) (r : TokenRecord) (b : Cursor) → a ≡ peeked c ts → a ≡ Some (r, b) → (t : Token) × (rest : List Token) × (ts ≡ t ∷ rest) × (r ≡ record_of t) × (b ≡ stepped c)
+  ahead_next [] r b e f =
+      let z : ◌≡◌ {A = Option (TokenRecord × Cursor)} None (Some (r, b)) = sym e ∙ f in
+      let y : ◌≡◌ {A = ℕ} 0 1 = cc in
+      absurd (omega arith)
+  ahead_next (t ∷ ts) r b e f = let z = some_parts (sym f ∙ e) in (t, ts, refl, z.0, z.1)
 
   module _ (end k : ℕ) (ts : List Token) (e : a ≡ peeked c ts) where
-    pub expect_end : a ≡ End → Refused (refusal_at end ParseFailed []) ≡ expected end c k ts
+    pub expect_end : a ≡ None → Err (refusal_at end ParseFailed ts) ≡ expected end c k ts
     unfolding expected
     expect_end f = rw (ahead_end ts e f)
 
-    pub expect_passed : (r : TokenRecord) (b : Cursor) → a ≡ Next r b → r.kind.0 ≡ k → Passed b ≡ expected end c k ts
+    pub expect_passed : (r : TokenRecord) (b : Cursor) → a ≡ Some (r, b) → nat_eq r.kind.0 k ≡ true → Ok b ≡ expected end c k ts
     unfolding expected
     expect_passed r b f g =
         let x = ahead_next ts r b e f in
-        let h : x.0.kind.0 ≡ k = ap (λ (q : TokenRecord). q.kind.0) (sym x.3) ∙ g in
-        rw (x.2, eq-eqb x.0.kind.0 k h, x.4)
+        let h : eqb x.0.kind.0 k ≡ true = ap (λ (q : TokenRecord). eqb q.kind.0 k) (sym x.3) ∙ g in
+        rw (x.2, h, x.4)
 
-    pub expect_other : (r : TokenRecord) (b : Cursor) → a ≡ Next r b → ¬ (r.kind.0 ≡ k) → Refused (record { fault = ParseFailed; at = r.span.start }) ≡ expected end c k ts
+    pub expect_other : (r : TokenRecord) (b : Cursor) → a ≡ Some (r, b) → nat_eq r.kind.0 k ≡ false → Err (refusal_at end ParseFailed ts) ≡ expected end c k ts
     unfolding expected
     expect_other r b f g =
         let x = ahead_next ts r b e f in
-        let at : r.span.start ≡ record { 0 = x.0.start } = ap (λ (q : TokenRecord). q.span.start) x.3 in
-        let no : eqb x.0.kind.0 k ≡ false = ne_eqb x.0.kind.0 k (λ h. g (ap (λ (q : TokenRecord). q.kind.0) x.3 ∙ h)) in
-        let is : expected end c k (x.0 ∷ x.1) ≡ Refused (record { fault = ParseFailed; at = record { 0 = x.0.start } }) = rw no in
-        ap (λ (o : ByteOffset). Refused (record { fault = ParseFailed; at = o })) at ∙ sym is ∙ ap (expected end c k) (sym x.2)
+        let h : eqb x.0.kind.0 k ≡ false = ap (λ (q : TokenRecord). eqb q.kind.0 k) (sym x.3) ∙ g in
+        rw (x.2, h)
+
+-- ---- behind what was read
+
+module _ (source tokens : List ℕ) (n k : ℕ) {T : Type 0} {p : Answer T} where
+  module _ {x : T} {c : Cursor} {r : Result Cursor ParseRefusal} (h : p ≡ Ok (x, c)) (f : r ≡ expected (length source) c k (tokens_left source tokens n c.token.0)) where
+    pub close_passed : {d : Cursor} → r ≡ Ok d → Ok (x, d) ≡ closed source tokens n k p
+    unfolding closed
+    close_passed g = rw (h, ← f, g)
+
+    pub close_other : {y : ParseRefusal} → r ≡ Err y → Err y ≡ closed source tokens n k p
+    unfolding closed
+    close_other g = rw (h, ← f, g)
+
+  pub close_refused : {y : ParseRefusal} → p ≡ Err y → Err y ≡ closed source tokens n k p
+  unfolding closed
+  close_refused h = rw h
 
 -- ---- by a test
 

@@ -1,4 +1,4 @@
-// The Rust's `Parser`, as a cursor by value over a lent table of tokens. Each function takes any words.
+// The Rust's `Parser`: tokens in a lent table, and a cursor by value over them. Each function takes any words.
 #![tactic(auto)]
 
 ghost use Rattle.std.specs.Prelude.{◌≡◌, ◌+◌, ◌≤◌, leb, length, if◌then◌else◌};
@@ -8,12 +8,13 @@ ghost use Rattle.cursor.specs.Tokens.{token_at, token_of_kind, tokens_left};
 ghost use Rattle.literals.specs.Literals.{span_text};
 ghost use Rattle.grammar.specs.Rule.{is_of};
 ghost use Rattle.grammar.specs.Grammar.{names};
-ghost use Rattle.cursor.specs.Cursor.{next_number, place_of_left, refusal_at, peeked, expected};
+ghost use Rattle.cursor.specs.Cursor.{next_number, place_of_left, refusal_at, row_of_refused, peeked, expected, closed};
 
 use checks::Fault;
 use records::kinds::TokenKind;
 use records::limits::Limits;
 use records::numbers::{ByteOffset, ExprNo, TokenNo, TypeNo};
+use records::refusals::{Cause, Refusal};
 use records::{Span, TokenRecord};
 
 // Where a parser stands: the numbers of the token passed last, and of the expression and the type recorded last.
@@ -31,18 +32,23 @@ pub struct ParseRefusal {
     pub at: ByteOffset,
 }
 
-// The next token and the cursor behind it, or the end of the source.
-#[derive(Clone, Copy)]
-pub enum Ahead {
-    Next(TokenRecord, Cursor),
-    End,
+impl Cause for ParseRefusal {
+    ghost row_of = { row_of_refused };
+
+    fn row(self) -> Refusal {
+        self.fault.row(self.at)
+    }
 }
 
-// The cursor behind a token that had to come, or a refusal.
+// What a parser answers: what it read and the cursor behind it, or a refusal.
+pub type Answer<T> = Result<(T, Cursor), ParseRefusal>;
+
+// The tokens of a source, so many, in a lent table.
 #[derive(Clone, Copy)]
-pub enum Expected {
-    Passed(Cursor),
-    Refused(ParseRefusal),
+pub struct Tokens<'a> {
+    pub source: &'a [u8],
+    pub table: &'a [u32],
+    pub count: u32,
 }
 
 // How long the text of a span is: a span that does not lie in a source of `total` bytes has none.
@@ -56,88 +62,86 @@ fn text_len(total: usize, start: u32, len: u32) -> u32
     }
 }
 
-// The record of a token, with the length of its text.
-fn token_record(source: &[u8], tokens: &[u32], number: u32) -> TokenRecord
-    ensures { result ≡ record_of (token_at source.now tokens.now number) }
-{
-    let kind = tables::word(tokens, TokenRecord::WORDS, number, TokenRecord::KIND);
-    let start = tables::word(tokens, TokenRecord::WORDS, number, TokenRecord::START);
-    let len = tables::word(tokens, TokenRecord::WORDS, number, TokenRecord::LEN);
-    TokenRecord {
-        kind: TokenKind(kind),
-        span: Span {
-            start: ByteOffset(start),
-            len: text_len(source.len(), start, len),
-        },
-    }
-}
-
-// The Rust's `peek` and `advance` in one: the next token, and the cursor behind it.
-pub fn peek(source: &[u8], tokens: &[u32], count: u32, c: Cursor) -> Ahead
-    ensures { result ≡ peeked c (tokens_left source.now tokens.now count c.token.0) }
-{
-    let passed = c.token.0;
-    if count <= passed {
-        return Ahead::End;
-    }
-    let expr = c.expr;
-    let ty = c.ty;
-    let next = token_record(source, tokens, passed + 1);
-    Ahead::Next(
-        next,
-        Cursor {
-            token: TokenNo(passed + 1),
-            expr,
-            ty,
-        },
-    )
-}
-
-// The Rust's `current_position`: where the next token starts, or the source's length.
-pub fn place(source: &[u8], tokens: &[u32], count: u32, c: Cursor) -> ByteOffset
-    requires { length source.now ≤ source_limit }
-    ensures { result.0 ≡ place_of_left (length source.now) (tokens_left source.now tokens.now count c.token.0) }
-{
-    let passed = c.token.0;
-    if count <= passed {
-        return ByteOffset(source.len() as u32);
-    }
-    ByteOffset(tables::word(tokens, TokenRecord::WORDS, passed + 1, TokenRecord::START))
-}
-
-// A refusal at the next token.
-pub fn refusal(source: &[u8], tokens: &[u32], count: u32, c: Cursor, fault: Fault) -> ParseRefusal
-    requires { length source.now ≤ source_limit }
-    ensures { result ≡ refusal_at (length source.now) fault (tokens_left source.now tokens.now count c.token.0) }
-{
-    ParseRefusal {
-        fault,
-        at: place(source, tokens, count, c),
-    }
-}
-
-// The Rust's `expect`: passes a token of this kind.
-pub fn expect(source: &[u8], tokens: &[u32], count: u32, kind: u32, c: Cursor) -> Expected
-    requires { length source.now ≤ source_limit }
-    ensures { result ≡ expected (length source.now) c kind (tokens_left source.now tokens.now count c.token.0) }
-{
-    match peek(source, tokens, count, c) {
-        Ahead::End => Expected::Refused(ParseRefusal {
-            fault: Fault::ParseFailed,
-            at: ByteOffset(source.len() as u32),
-        }),
-        Ahead::Next(t, behind) => {
-            let found = t.kind;
-            let span = t.span;
-            let at = span.start;
-            if found.0 == kind {
-                return Expected::Passed(behind);
-            }
-            Expected::Refused(ParseRefusal {
-                fault: Fault::ParseFailed,
-                at,
-            })
+impl<'a> Tokens<'a> {
+    // The record of a token, with the length of its text.
+    fn record(self, number: u32) -> TokenRecord
+        ensures { result ≡ record_of (token_at self.entry.source.now self.entry.table.now number) }
+    {
+        let kind = tables::word(self.table, TokenRecord::WORDS, number, TokenRecord::KIND);
+        let start = tables::word(self.table, TokenRecord::WORDS, number, TokenRecord::START);
+        let len = tables::word(self.table, TokenRecord::WORDS, number, TokenRecord::LEN);
+        TokenRecord {
+            kind: TokenKind(kind),
+            span: Span {
+                start: ByteOffset(start),
+                len: text_len(self.source.len(), start, len),
+            },
         }
+    }
+
+    // The Rust's `peek` and `advance` in one: the next token, and the cursor behind it.
+    pub fn peek(self, c: Cursor) -> Option<(TokenRecord, Cursor)>
+        ensures { result ≡ peeked c (tokens_left self.entry.source.now self.entry.table.now self.entry.count c.token.0) }
+    {
+        let passed = c.token.0;
+        if self.count <= passed {
+            return None;
+        }
+        let next = self.record(passed + 1);
+        let behind = Cursor {
+            token: TokenNo(passed + 1),
+            ..c
+        };
+        Some((next, behind))
+    }
+
+    // The Rust's `current_position`: where the next token starts, or the source's length.
+    pub fn place(self, c: Cursor) -> ByteOffset
+        requires { length self.source.now ≤ source_limit }
+        ensures { result.0 ≡ place_of_left (length self.entry.source.now) (tokens_left self.entry.source.now self.entry.table.now self.entry.count c.token.0) }
+    {
+        let passed = c.token.0;
+        if self.count <= passed {
+            return ByteOffset(self.source.len() as u32);
+        }
+        ByteOffset(tables::word(
+            self.table,
+            TokenRecord::WORDS,
+            passed + 1,
+            TokenRecord::START,
+        ))
+    }
+
+    // A refusal at the next token.
+    pub fn refusal(self, c: Cursor, fault: Fault) -> ParseRefusal
+        requires { length self.source.now ≤ source_limit }
+        ensures { result ≡ refusal_at (length self.entry.source.now) fault (tokens_left self.entry.source.now self.entry.table.now self.entry.count c.token.0) }
+    {
+        ParseRefusal {
+            fault,
+            at: self.place(c),
+        }
+    }
+
+    // The Rust's `expect`: passes a token of this kind.
+    pub fn expect(self, kind: TokenKind, c: Cursor) -> Result<Cursor, ParseRefusal>
+        requires { length self.source.now ≤ source_limit }
+        ensures { result ≡ expected (length self.entry.source.now) c kind.0 (tokens_left self.entry.source.now self.entry.table.now self.entry.count c.token.0) }
+    {
+        match self.peek(c) {
+            Some((t, behind)) if t.kind == kind => Ok(behind),
+            _ => Err(self.refusal(c, Fault::ParseFailed)),
+        }
+    }
+
+    // Passes a token of this kind behind what was read.
+    pub fn close<T: Copy>(self, kind: TokenKind, p: Answer<T>) -> Answer<T>
+        requires { length self.source.now ≤ source_limit }
+        ensures { result ≡ closed self.entry.source.now self.entry.table.now self.entry.count kind.0 p }
+    {
+        let (read, c) = p?;
+        let d = self.expect(kind, c)?;
+        Ok((read, d))
     }
 }
 
@@ -145,8 +149,7 @@ pub fn expect(source: &[u8], tokens: &[u32], count: u32, kind: u32, c: Cursor) -
 pub fn span_text(source: &[u8], span: Span) -> &[u8]
     ensures { result.now ≡ span_text source.now span }
 {
-    let from = span.start;
-    let start = from.0 as usize;
+    let start = span.start.0 as usize;
     let len = span.len as usize;
     if start + len <= source.len() {
         return &source[start..start + len];
@@ -169,6 +172,5 @@ pub fn next_number(number: u32) -> u32
 pub fn is_name(kind: TokenKind) -> bool
     ensures { result ≡ is_of (token_of_kind kind) names }
 {
-    let k = kind.0;
-    (k == TokenKind::SYMBOL) | (k == TokenKind::UNDERSCORE)
+    (kind == TokenKind::SYMBOL) | (kind == TokenKind::UNDERSCORE)
 }

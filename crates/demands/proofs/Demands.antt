@@ -41,9 +41,7 @@ use Rattle.reader.proofs.Answers.{counts_held}
 use Rattle.reader.proofs.Fits.{resolved_fit}
 use Rattle.demands.specs.Demands.{lines_read, JudgesAgree, ChildrenBefore, OnLoop, MissingOnLoops, Referred, NoRootLost, Few}
 use Rattle.text.specs.declared.TextError.{TextError}
-use Rattle.text.specs.declared.TextError.TheVariants.{BadAt}
 use Rattle.lex.specs.declared.LexError.{LexError}
-use Rattle.lex.specs.declared.LexError.TheVariants.{NoToken, TooManyTokens}
 
 -- ---- what was read
 
@@ -66,12 +64,11 @@ was_read source jets c = size (ltb source_limit (length source))
 
     tokens : (a : Result ℕ LexError) → by_tokens source jets a ≡ read c → WasRead source jets c
     tokens (Ok n) e = lines (parsing source jets) refl e
-    tokens (Err (NoToken at)) e = absurd (not_read _ c e)
-    tokens (Err (TooManyTokens at)) e = absurd (not_read _ c e)
+    tokens (Err x) e = absurd (not_read _ c e)
 
     text : (a : Result (Unit {0}) TextError) → by_text source jets a ≡ read c → WasRead source jets c
     text (Ok _) e = tokens (lexing source).answer e
-    text (Err (BadAt at)) e = absurd (not_read _ c e)
+    text (Err x) e = absurd (not_read _ c e)
 
     size : (b : Bool) → (if b then refused refusal.long_source else by_text source jets (check_text source)) ≡ read c → WasRead source jets c
     size true e = absurd (not_read _ c e)

@@ -1,13 +1,13 @@
-// How parsing, reading and listing end: the answers, their rows of the table of refusals, and their counts.
+// How parsing and reading end: why a source is not parsed, and how many records there are.
 #![tactic(auto)]
 
 ghost use Rattle.std.specs.Prelude.{◌≡◌};
-ghost use Rattle.records.specs.Refusals.{no_row};
-ghost use Rattle.ends.specs.Rows.{row_of_parse_end, row_of_parse, row_of_read, no_counts, no_read_counts, counts_of_end, counts_of_parse, counts_of_read};
+ghost use Rattle.ends.specs.declared.ParseError.TheVariants.{NotLexed, Refused};
+ghost use Rattle.ends.specs.Rows.{row_of_parse_error, no_counts, no_read_counts, counts_of_parse, counts_of_read};
 
 use cursor::ParseRefusal;
-use lex::LexAnswer;
-use records::refusals::Refusal;
+use lex::LexError;
+use records::refusals::{Cause, Refusal};
 
 // How many records there are of each table.
 #[derive(Clone, Copy)]
@@ -16,20 +16,6 @@ pub struct Counts {
     pub lines: u32,
     pub exprs: u32,
     pub types: u32,
-}
-
-// What parsing tokens ends with: so many records, or a refusal.
-#[derive(Clone, Copy)]
-pub enum ParseEnd {
-    Lines(Counts),
-    Refused(ParseRefusal),
-}
-
-// The parser's answer for any source, any jet list and any lent tables.
-#[derive(Clone, Copy)]
-pub enum ParseAnswer {
-    NotLexed(LexAnswer),
-    Parsed(ParseEnd),
 }
 
 // How many records there are of each table that reading fills; work has none.
@@ -41,28 +27,37 @@ pub struct ReadCounts {
     pub errors: u32,
 }
 
-// The reader's answer for any source, any jet list and any lent tables.
+// Why a source is not parsed: its tokens' error, or the grammar's refusal.
 #[derive(Clone, Copy)]
-pub enum ReadAnswer {
-    Read(ReadCounts),
-    Refused(ParseAnswer),
+pub enum ParseError {
+    NotLexed(LexError),
+    Refused(ParseRefusal),
 }
 
-// The lister's answer: how many bytes of the output the text has, or that there is no room.
-#[derive(Clone, Copy)]
-pub enum ListAnswer {
-    Listed(usize),
-    NoRoom,
+impl From<LexError> for ParseError {
+    ghost from_gives = { λ e r. r ≡ NotLexed e };
+
+    fn from(error: LexError) -> ParseError {
+        ParseError::NotLexed(error)
+    }
 }
 
-// The row of what is not refused.
-fn no_row() -> Refusal
-    ensures { result ≡ no_row }
-{
-    Refusal {
-        no: Refusal::NONE,
-        value: 0,
-        place: 0,
+impl From<ParseRefusal> for ParseError {
+    ghost from_gives = { λ x r. r ≡ Refused x };
+
+    fn from(refusal: ParseRefusal) -> ParseError {
+        ParseError::Refused(refusal)
+    }
+}
+
+impl Cause for ParseError {
+    ghost row_of = { row_of_parse_error };
+
+    fn row(self) -> Refusal {
+        match self {
+            ParseError::NotLexed(error) => error.row(),
+            ParseError::Refused(refusal) => refusal.row(),
+        }
     }
 }
 
@@ -89,71 +84,16 @@ fn no_read_counts() -> ReadCounts
     }
 }
 
-impl ParseEnd {
-    // The end as a row of the table of refusals,
-    fn row(self) -> Refusal
-        ensures { result ≡ row_of_parse_end self }
-    {
-        match self {
-            ParseEnd::Lines(_) => no_row(),
-            ParseEnd::Refused(x) => {
-                let fault = x.fault;
-                fault.row(x.at)
-            }
-        }
-    }
-
-    // and how many records there are.
-    fn counts(self) -> Counts
-        ensures { result ≡ counts_of_end self }
-    {
-        match self {
-            ParseEnd::Lines(n) => n,
-            ParseEnd::Refused(_) => no_counts(),
-        }
-    }
+// How many records parsing has made: none where there is an error.
+pub fn parse_counts(answer: Result<Counts, ParseError>) -> Counts
+    ensures { result ≡ counts_of_parse answer }
+{
+    answer.unwrap_or(no_counts())
 }
 
-impl ParseAnswer {
-    // The answer as a row of the table of refusals,
-    pub fn row(self) -> Refusal
-        ensures { result ≡ row_of_parse self }
-    {
-        match self {
-            ParseAnswer::NotLexed(answer) => answer.row(),
-            ParseAnswer::Parsed(end) => end.row(),
-        }
-    }
-
-    // and how many records there are.
-    pub fn counts(self) -> Counts
-        ensures { result ≡ counts_of_parse self }
-    {
-        match self {
-            ParseAnswer::NotLexed(_) => no_counts(),
-            ParseAnswer::Parsed(end) => end.counts(),
-        }
-    }
-}
-
-impl ReadAnswer {
-    // The answer as a row of the table of refusals,
-    pub fn row(self) -> Refusal
-        ensures { result ≡ row_of_read self }
-    {
-        match self {
-            ReadAnswer::Read(_) => no_row(),
-            ReadAnswer::Refused(answer) => answer.row(),
-        }
-    }
-
-    // and how many records there are.
-    pub fn counts(self) -> ReadCounts
-        ensures { result ≡ counts_of_read self }
-    {
-        match self {
-            ReadAnswer::Read(counts) => counts,
-            ReadAnswer::Refused(_) => no_read_counts(),
-        }
-    }
+// How many records reading has made: none where there is an error.
+pub fn read_counts(answer: Result<ReadCounts, ParseError>) -> ReadCounts
+    ensures { result ≡ counts_of_read answer }
+{
+    answer.unwrap_or(no_read_counts())
 }

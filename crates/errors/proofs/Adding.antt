@@ -31,15 +31,7 @@ use Rattle.errors.specs.Code.{error_kind, error_of_node, count_after, table_afte
 abbrev coded : error.Kind → ErrorKind
 coded k = record { 0 = error.number k }
 
-pub kind_missing : {k : ℕ} → k ≡ node.number node.missing → Some (coded error.missing) ≡ error_kind k
-unfolding error_kind
-kind_missing e = rw e
-
-pub kind_incomplete : {k : ℕ} → k ≡ node.number node.noexpr → Some (coded error.incomplete) ≡ error_kind k
-unfolding error_kind
-kind_incomplete e = rw e
-
-pub kind_none : {k : ℕ} → ¬ (k ≡ node.number node.missing) → ¬ (k ≡ node.number node.noexpr) → None ≡ error_kind k
+kind_none : {k : ℕ} → ¬ (k ≡ node.number node.missing) → ¬ (k ≡ node.number node.noexpr) → None ≡ error_kind k
 unfolding error_kind
 kind_none {k} a b = rw (ne_eqb k 1 a, ne_eqb k 2 b)
 
@@ -70,10 +62,10 @@ module _ {o : Option ErrorKind} (b : ℕ) where
     unfolding count_after
     count_more h = rw (← some) h
 
-    pub table_more : (nd : List ℕ) (n : ℕ) (rs : List ℕ) {r : ℕ} {x : ErrorRecord} {ws rs' : List ℕ} → r ≡ next_number b → x ≡ error_of_node nd n k → ws ≡ error_words x → rs' ≡ written error_width rs r ws
+    pub table_more : (nd : List ℕ) (n : ℕ) (rs : List ℕ) {r : ℕ} {x : ErrorRecord} {rs' : List ℕ} → r ≡ next_number b → x ≡ error_of_node nd n k → rs' ≡ written error_width rs r (error_words x)
         → rs' ≡ table_after o nd n rs b
     unfolding table_after
-    table_more nd n rs er ex ew h = rw (← some) (h ∙ rw (ew, ex, er))
+    table_more nd n rs er ex h = rw (← some) (h ∙ rw (ex, er))
 
 -- ---- the words of a node
 
@@ -140,7 +132,7 @@ add_one_node nd n x es old ek ee room b rs h = subst (λ (w : ℕ). Behind old (
     wrong k w e r =
         let few : length es < record_limit = omega (arith, r, length-append es (node_error k x.head ∷ [])) in (
           sym (count_more b e refl) ∙ ap next_number h.0 ∙ sym (next_below few) ∙ sym (length-append es (node_error k x.head ∷ [])),
-          sym (table_more b e nd n rs refl refl refl refl)
+          sym (table_more b e nd n rs refl refl refl)
               ∙ ap₂ (λ (t : List ℕ) (i : ℕ). written error_width t (next_number i) (error_words (error_of_node nd n (coded k)))) h.1 h.0
               ∙ ap (λ (y : ErrorRecord). written error_width (table_of error_width (error_rows es) old) (next_number (length es)) (error_words y)) (ee k)
               ∙ append_one es (node_error k x.head) old few,
@@ -154,8 +146,8 @@ add_one_node nd n x es old ek ee room b rs h = subst (λ (w : ℕ). Behind old (
 
     go : (k : node.Kind) → length (es ++ errors_by k x.head) ≤ record_limit
         → Behind old (es ++ errors_by k x.head) (count_after (error_kind (node.number k)) b) (table_after (error_kind (node.number k)) nd n rs b)
-    go node.missing r = wrong error.missing 1 (kind_missing refl) r
-    go node.noexpr r = wrong error.incomplete 2 (kind_incomplete refl) r
+    go node.missing r = wrong error.missing 1 (unfold error_kind in refl) r
+    go node.noexpr r = wrong error.incomplete 2 (unfold error_kind in refl) r
     go node.ref r = right 3 (kind_none (λ q. omega arith) (λ q. omega arith))
     go (node.part k) r = right (node.part_number k) (part_none k)
 

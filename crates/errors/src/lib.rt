@@ -12,14 +12,14 @@ use records::numbers::{ByteOffset, NodeNo};
 use records::{ErrorRecord, NodeRecord, Span};
 
 // The kind of the error that a node of this kind gives, if it gives one.
-fn error_kind(kind: u32) -> Option<ErrorKind>
-    ensures { result ≡ error_kind kind }
+fn error_kind(kind: NodeKind) -> Option<ErrorKind>
+    ensures { result ≡ error_kind kind.0 }
 {
     if kind == NodeKind::MISSING {
-        return Some(ErrorKind(ErrorKind::MISSING));
+        return Some(ErrorKind::MISSING);
     }
     if kind == NodeKind::NO_EXPR {
-        return Some(ErrorKind(ErrorKind::INCOMPLETE));
+        return Some(ErrorKind::INCOMPLETE);
     }
     None
 }
@@ -45,13 +45,11 @@ fn add_error(nodes: &[u32], number: NodeNo, errors: &mut [u32], before: u32) -> 
     ensures table { errors.new ≡ table_after (error_kind (word_at node_width nodes.now number.0 0)) nodes.now number.0 errors.old before }
 {
     let node_kind = tables::word(nodes, NodeRecord::WORDS, number.0, NodeRecord::KIND);
-    let Some(kind) = error_kind(node_kind) else {
+    let Some(kind) = error_kind(NodeKind(node_kind)) else {
         return before;
     };
     let made = cursor::next_number(before);
-    let error = error_at(nodes, number, kind);
-    let words = error.words();
-    tables::write(errors, ErrorRecord::WORDS, made, &words);
+    tables::write_record(errors, made, error_at(nodes, number, kind));
     made
 }
 

@@ -7,274 +7,163 @@ ghost use Rattle.checks.specs.Checks.{checks_of};
 ghost use Rattle.cursor.specs.Tokens.{tokens_left};
 ghost use Rattle.cursor.specs.Cursor.{Ready};
 ghost use Rattle.grammar.specs.Grammar.{expr, cmr};
-ghost use Rattle.exprs.specs.Answers.{cmr_head_by, completed, completed_table, closed_expr, closed_cmr, unary_by, binary_by, assert_lby, assert_rby, ExprReads, CmrReads, TwoReads};
+ghost use Rattle.exprs.specs.Answers.{cmr_head_by, completed, completed_table, cmr_of, unary_by, binary_by, assert_lby, assert_rby, ExprReads, CmrReads, TwoReads};
 
 use checks::Fault;
-use cursor::{Ahead, Cursor, Expected, ParseRefusal};
+use cursor::{Answer, Cursor, Tokens};
 use heads::{Cmr, ExprHead, ExprInner, TwoParts};
+use records::Span;
 use records::kinds::{NodeKind, TokenKind};
 use records::numbers::{ByteOffset, ExprNo};
-use records::{ExprRecord, Span};
-
-// An expression's number and the cursor behind it, or a refusal.
-#[derive(Clone, Copy)]
-pub enum ExprAnswer {
-    Read(ExprNo, Cursor),
-    Refused(ParseRefusal),
-}
-
-// A CMR and the cursor behind it, or a refusal.
-#[derive(Clone, Copy)]
-pub enum CmrAnswer {
-    Read(Cmr, Cursor),
-    Refused(ParseRefusal),
-}
 
 // What begins a CMR.
 #[derive(Clone, Copy)]
 pub enum CmrHead {
-    Brace(Cursor),
-    Literal(Span, Cursor),
-    Refused(ParseRefusal),
-}
-
-// An expression whose parts are read, not recorded yet; or a refusal.
-#[derive(Clone, Copy)]
-pub enum Complete {
-    Inner(ExprInner, Cursor),
-    Refused(ParseRefusal),
+    Brace,
+    Literal(Span),
 }
 
 // Records a complete expression at its place, and answers with its number.
-fn finish(exprs: &mut [u32], at: ByteOffset, p: Complete) -> ExprAnswer
+fn finish(exprs: &mut [u32], at: ByteOffset, p: Answer<ExprInner>) -> Answer<ExprNo>
     ensures answer { result ≡ completed p }
     ensures table { exprs.new ≡ completed_table at p exprs.old }
 {
-    match p {
-        Complete::Inner(inner, c) => {
-            let token = c.token;
-            let last = c.expr;
-            let ty = c.ty;
-            let number = cursor::next_number(last.0);
-            let record = inner.record(at);
-            let words = record.words();
-            tables::write(exprs, ExprRecord::WORDS, number, &words);
-            ExprAnswer::Read(
-                ExprNo(number),
-                Cursor {
-                    token,
-                    expr: ExprNo(number),
-                    ty,
-                },
-            )
-        }
-        Complete::Refused(x) => ExprAnswer::Refused(x),
-    }
+    let (inner, c) = p?;
+    let number = ExprNo(cursor::next_number(c.expr.0));
+    tables::write_record(exprs, number.0, inner.record(at));
+    Ok((number, Cursor { expr: number, ..c }))
 }
 
 // What CMR begins at the cursor.
-fn cmr_head(source: &[u8], tokens: &[u32], count: u32, c: Cursor) -> CmrHead
-    requires { length source.now ≤ source_limit }
-    ensures { result ≡ cmr_head_by (length source.now) c (tokens_left source.now tokens.now count c.token.0) }
+fn cmr_head(tokens: Tokens, c: Cursor) -> Answer<CmrHead>
+    requires { length tokens.source.now ≤ source_limit }
+    ensures { result ≡ cmr_head_by (length tokens.entry.source.now) c (tokens_left tokens.entry.source.now tokens.entry.table.now tokens.entry.count c.token.0) }
 {
-    match cursor::peek(source, tokens, count, c) {
-        Ahead::Next(t, d) => {
-            let kind = t.kind;
-            let span = t.span;
-            if kind.0 == TokenKind::HASH_BRACE {
-                return CmrHead::Brace(d);
-            }
-            if kind.0 == TokenKind::CMR_LITERAL {
-                return CmrHead::Literal(span, d);
-            }
-            CmrHead::Refused(cursor::refusal(source, tokens, count, c, Fault::ParseFailed))
-        }
-        Ahead::End => CmrHead::Refused(cursor::refusal(
-            source,
-            tokens,
-            count,
-            c,
-            Fault::ParseFailed,
-        )),
+    match tokens.peek(c) {
+        Some((t, d)) if t.kind == TokenKind::HASH_BRACE => Ok((CmrHead::Brace, d)),
+        Some((t, d)) if t.kind == TokenKind::CMR_LITERAL => Ok((CmrHead::Literal(t.span), d)),
+        _ => Err(tokens.refusal(c, Fault::ParseFailed)),
     }
 }
 
-// Passes the parenthesis behind an expression.
-fn close(source: &[u8], tokens: &[u32], count: u32, p: ExprAnswer) -> ExprAnswer
-    requires { length source.now ≤ source_limit }
-    ensures { result ≡ closed_expr source.now tokens.now count p }
+// The CMR of an expression in braces.
+fn braced(p: Answer<ExprNo>) -> Answer<Cmr>
+    ensures { result ≡ cmr_of p }
 {
-    match p {
-        ExprAnswer::Read(e, c) => match cursor::expect(
-            source,
-            tokens,
-            count,
-            TokenKind::R_PAREN,
-            c,
-        ) {
-            Expected::Passed(d) => ExprAnswer::Read(e, d),
-            Expected::Refused(x) => ExprAnswer::Refused(x),
-        },
-        ExprAnswer::Refused(x) => ExprAnswer::Refused(x),
-    }
-}
-
-// Passes the brace behind the expression of a CMR.
-fn close_cmr(source: &[u8], tokens: &[u32], count: u32, p: ExprAnswer) -> CmrAnswer
-    requires { length source.now ≤ source_limit }
-    ensures { result ≡ closed_cmr source.now tokens.now count p }
-{
-    match p {
-        ExprAnswer::Read(e, c) => match cursor::expect(
-            source,
-            tokens,
-            count,
-            TokenKind::R_BRACE,
-            c,
-        ) {
-            Expected::Passed(d) => CmrAnswer::Read(Cmr::Expr(e), d),
-            Expected::Refused(x) => CmrAnswer::Refused(x),
-        },
-        ExprAnswer::Refused(x) => CmrAnswer::Refused(x),
-    }
+    let (e, c) = p?;
+    Ok((Cmr::Expr(e), c))
 }
 
 // A keyword with one expression,
-fn unary(kind: NodeKind, p: ExprAnswer) -> Complete
+fn unary(kind: NodeKind, p: Answer<ExprNo>) -> Answer<ExprInner>
     ensures { result ≡ unary_by kind p }
 {
-    match p {
-        ExprAnswer::Read(e, c) => Complete::Inner(ExprInner::Unary(kind, e), c),
-        ExprAnswer::Refused(x) => Complete::Refused(x),
-    }
+    let (e, c) = p?;
+    Ok((ExprInner::Unary(kind, e), c))
 }
 
 // with two, of which the left one is read,
-fn binary(kind: NodeKind, left: ExprNo, p: ExprAnswer) -> Complete
+fn binary(kind: NodeKind, left: ExprNo, p: Answer<ExprNo>) -> Answer<ExprInner>
     ensures { result ≡ binary_by kind left p }
 {
-    match p {
-        ExprAnswer::Read(right, c) => Complete::Inner(ExprInner::Binary(kind, left, right), c),
-        ExprAnswer::Refused(x) => Complete::Refused(x),
-    }
+    let (right, c) = p?;
+    Ok((ExprInner::Binary(kind, left, right), c))
 }
 
 // an assertion whose expression is read,
-fn assert_left(e: ExprNo, p: CmrAnswer) -> Complete
+fn assert_left(e: ExprNo, p: Answer<Cmr>) -> Answer<ExprInner>
     ensures { result ≡ assert_lby e p }
 {
-    match p {
-        CmrAnswer::Read(cmr, c) => Complete::Inner(ExprInner::AssertL(e, cmr), c),
-        CmrAnswer::Refused(x) => Complete::Refused(x),
-    }
+    let (cmr, c) = p?;
+    Ok((ExprInner::AssertL(e, cmr), c))
 }
 
 // and one whose CMR is.
-fn assert_right(cmr: Cmr, p: ExprAnswer) -> Complete
+fn assert_right(cmr: Cmr, p: Answer<ExprNo>) -> Answer<ExprInner>
     ensures { result ≡ assert_rby cmr p }
 {
-    match p {
-        ExprAnswer::Read(e, c) => Complete::Inner(ExprInner::AssertR(cmr, e), c),
-        ExprAnswer::Refused(x) => Complete::Refused(x),
-    }
+    let (e, c) = p?;
+    Ok((ExprInner::AssertR(cmr, e), c))
 }
 
 // An expression, with `depth` left.
 #[cycle(parse_cmr_parse_expr_parse_two)]
 pub fn parse_expr(
-    source: &[u8],
     jets: &[u8],
-    tokens: &[u32],
-    count: u32,
+    tokens: Tokens,
     exprs: &mut [u32],
     c: Cursor,
     depth: u32,
-) -> ExprAnswer
-    requires { length source.now ≤ source_limit }
-    ensures { Ready count c → ExprReads source.now tokens.now count c (expr (checks_of jets.now) depth (tokens_left source.now tokens.now count c.token.0)) result exprs.old exprs.new }
+) -> Answer<ExprNo>
+    requires { length tokens.source.now ≤ source_limit }
+    ensures { Ready tokens.entry.count c → ExprReads tokens.entry.source.now tokens.entry.table.now tokens.entry.count c (expr (checks_of jets.now) depth (tokens_left tokens.entry.source.now tokens.entry.table.now tokens.entry.count c.token.0)) result exprs.old exprs.new }
 {
     if depth == 0 {
-        return ExprAnswer::Refused(cursor::refusal(source, tokens, count, c, Fault::TooDeep));
+        return Err(tokens.refusal(c, Fault::TooDeep));
     }
     let below = depth - 1;
-    match heads::expr_head(source, jets, tokens, count, c) {
-        ExprHead::Whole(inner, at, d) => finish(exprs, at, Complete::Inner(inner, d)),
-        ExprHead::Parens(d) => {
-            let p = parse_expr(source, jets, tokens, count, exprs, d, below);
-            close(source, tokens, count, p)
+    let (head, d) = heads::expr_head(jets, tokens, c)?;
+    match head {
+        ExprHead::Whole(inner, at) => finish(exprs, at, Ok((inner, d))),
+        ExprHead::Parens => {
+            let p = parse_expr(jets, tokens, exprs, d, below);
+            tokens.close(TokenKind::R_PAREN, p)
         }
-        ExprHead::Unary(kind, at, d) => {
-            let p = parse_expr(source, jets, tokens, count, exprs, d, below);
+        ExprHead::Unary(kind, at) => {
+            let p = parse_expr(jets, tokens, exprs, d, below);
             finish(exprs, at, unary(kind, p))
         }
-        ExprHead::Two(parts, at, d) => {
-            let p = parse_two(source, jets, tokens, count, exprs, parts, d, below);
+        ExprHead::Two(parts, at) => {
+            let p = parse_two(jets, tokens, exprs, parts, d, below);
             finish(exprs, at, p)
         }
-        ExprHead::Refused(x) => ExprAnswer::Refused(x),
     }
 }
 
 // The two parts behind a keyword, with `depth` left for each.
 #[cycle(parse_cmr_parse_expr_parse_two)]
 fn parse_two(
-    source: &[u8],
     jets: &[u8],
-    tokens: &[u32],
-    count: u32,
+    tokens: Tokens,
     exprs: &mut [u32],
     parts: TwoParts,
     c: Cursor,
     depth: u32,
-) -> Complete
-    requires { length source.now ≤ source_limit }
-    ensures { TwoReads source.now jets.now tokens.now count parts c depth result exprs.old exprs.new }
+) -> Answer<ExprInner>
+    requires { length tokens.source.now ≤ source_limit }
+    ensures { TwoReads tokens.entry.source.now jets.now tokens.entry.table.now tokens.entry.count parts c depth result exprs.old exprs.new }
 {
     match parts {
-        TwoParts::Binary(kind) => match parse_expr(source, jets, tokens, count, exprs, c, depth) {
-            ExprAnswer::Read(l, d) => {
-                let p = parse_expr(source, jets, tokens, count, exprs, d, depth);
-                binary(kind, l, p)
-            }
-            ExprAnswer::Refused(x) => Complete::Refused(x),
-        },
-        TwoParts::AssertL => match parse_expr(source, jets, tokens, count, exprs, c, depth) {
-            ExprAnswer::Read(e, d) => {
-                let p = parse_cmr(source, jets, tokens, count, exprs, d, depth);
-                assert_left(e, p)
-            }
-            ExprAnswer::Refused(x) => Complete::Refused(x),
-        },
-        TwoParts::AssertR => match parse_cmr(source, jets, tokens, count, exprs, c, depth) {
-            CmrAnswer::Read(cmr, d) => {
-                let p = parse_expr(source, jets, tokens, count, exprs, d, depth);
-                assert_right(cmr, p)
-            }
-            CmrAnswer::Refused(x) => Complete::Refused(x),
-        },
+        TwoParts::Binary(kind) => {
+            let (left, d) = parse_expr(jets, tokens, exprs, c, depth)?;
+            let p = parse_expr(jets, tokens, exprs, d, depth);
+            binary(kind, left, p)
+        }
+        TwoParts::AssertL => {
+            let (e, d) = parse_expr(jets, tokens, exprs, c, depth)?;
+            let p = parse_cmr(jets, tokens, exprs, d, depth);
+            assert_left(e, p)
+        }
+        TwoParts::AssertR => {
+            let (cmr, d) = parse_cmr(jets, tokens, exprs, c, depth)?;
+            let p = parse_expr(jets, tokens, exprs, d, depth);
+            assert_right(cmr, p)
+        }
     }
 }
 
 // A CMR, with `depth` left for the expression in it.
 #[cycle(parse_cmr_parse_expr_parse_two)]
-fn parse_cmr(
-    source: &[u8],
-    jets: &[u8],
-    tokens: &[u32],
-    count: u32,
-    exprs: &mut [u32],
-    c: Cursor,
-    depth: u32,
-) -> CmrAnswer
-    requires { length source.now ≤ source_limit }
-    ensures { Ready count c → CmrReads source.now tokens.now count c (cmr (checks_of jets.now) (expr (checks_of jets.now) depth) (tokens_left source.now tokens.now count c.token.0)) result exprs.old exprs.new }
+fn parse_cmr(jets: &[u8], tokens: Tokens, exprs: &mut [u32], c: Cursor, depth: u32) -> Answer<Cmr>
+    requires { length tokens.source.now ≤ source_limit }
+    ensures { Ready tokens.entry.count c → CmrReads tokens.entry.source.now tokens.entry.table.now tokens.entry.count c (cmr (checks_of jets.now) (expr (checks_of jets.now) depth) (tokens_left tokens.entry.source.now tokens.entry.table.now tokens.entry.count c.token.0)) result exprs.old exprs.new }
 {
-    match cmr_head(source, tokens, count, c) {
-        CmrHead::Brace(d) => {
-            let p = parse_expr(source, jets, tokens, count, exprs, d, depth);
-            close_cmr(source, tokens, count, p)
+    let (head, d) = cmr_head(tokens, c)?;
+    match head {
+        CmrHead::Brace => {
+            let p = parse_expr(jets, tokens, exprs, d, depth);
+            braced(tokens.close(TokenKind::R_BRACE, p))
         }
-        CmrHead::Literal(span, d) => CmrAnswer::Read(Cmr::Literal(span), d),
-        CmrHead::Refused(x) => CmrAnswer::Refused(x),
+        CmrHead::Literal(span) => Ok((Cmr::Literal(span), d)),
     }
 }

@@ -1,5 +1,5 @@
 -- What begins an expression, by the token's kind. Assumes nothing.
-use Rattle.std.specs.Prelude.{if◌then◌else◌, Err, Ok, Result}
+use Rattle.std.specs.Prelude.{if◌then◌else◌, Err, Ok, Result, None, Option, Some}
 use Prim.Native.Nat.{ℕ, ◌+◌}
 use mathlib.Core.Bool.{Bool, true, false}
 use mathlib.Core.Path.{◌≡◌, refl, sym, ap, subst, ◌∙◌}
@@ -14,10 +14,8 @@ use Rattle.checks.specs.declared.Fault.TheVariants.{ParseFailed}
 use Rattle.literals.specs.Literals.{bit_length, span_text}
 use Rattle.checks.specs.Checks.{word_verdict, fail_verdict, jet_verdict, Checks, checks_of}
 use Rattle.cursor.specs.declared.Cursor.{Cursor}
-use Rattle.cursor.specs.declared.Ahead.{Ahead}
-use Rattle.cursor.specs.declared.Ahead.TheVariants.{Next, End}
 use Rattle.cursor.specs.Tokens.{token_at, token_of, tokens_left}
-use Rattle.cursor.specs.Cursor.{refusal_at, stepped, peeked, Ready, Reached}
+use Rattle.cursor.specs.Cursor.{refusal_at, stepped, peeked, Ready, Reached, Answer}
 use Rattle.cursor.proofs.Laws.{token_again}
 use Rattle.cursor.proofs.Entries.{choice_none}
 use Rattle.cursor.proofs.Reached.{reached_none, reached_first, reached_after, reached_ready}
@@ -30,14 +28,14 @@ use Rattle.grammar.specs.Part.{part_of, weight, nullary_kind, span_of}
 use Rattle.grammar.specs.Recorded.{expr_records}
 use Rattle.heads.specs.declared.ExprInner.TheVariants.{Reference, Nullary, Hole, Fail, Jet, Word}
 use Rattle.heads.specs.declared.TwoParts.TheVariants.{Binary as BinaryParts, AssertL as LeftParts, AssertR as RightParts}
-use Rattle.heads.specs.declared.ExprHead.{ExprHead}
-use Rattle.heads.specs.declared.ExprHead.TheVariants.{Whole, Parens, Unary as UnaryHead, Two as TwoHead, Refused as NoHead}
-use Rattle.heads.specs.declared.Keyword.{Keyword}
-use Rattle.heads.specs.declared.Keyword.TheVariants.{Nullary as NullaryWord, Unary as UnaryWord, Binary as BinaryWord, Other as OtherWord}
-use Rattle.heads.specs.declared.LiteralAnswer.{LiteralAnswer}
 use Rattle.heads.specs.Answers.{LeafExpr, HeadReads, of_part, part_keywords, KeywordIs, keyword_head, literal_answer, hole_head, tested_by, word_head, fail_head}
 use Rattle.heads.proofs.Steps.{next_is}
 use Rattle.checks.specs.declared.Fault.{Fault}
+use Rattle.heads.specs.declared.ExprHead.{ExprHead}
+use Rattle.heads.specs.declared.ExprHead.TheVariants.{Parens, Two as TwoHead, Unary as UnaryHead, Whole}
+use Rattle.heads.specs.declared.Keyword.{Keyword}
+use Rattle.heads.specs.declared.Keyword.TheVariants.{Binary as BinaryWord, Unary as UnaryWord, Nullary as NullaryWord}
+use Rattle.records.specs.declared.Span.{Span}
 
 -- ---- expressions of one record
 
@@ -73,15 +71,15 @@ not_both (x ∷ xs) ys k h i = (not_both xs ys k h.0 i, h.1)
 -- ---- from one cursor to another
 
 module _ (s t : List ℕ) (n : ℕ) {c d : Cursor} {q : List Token} (to : Reached s t n c d q 0 0) (P : Parsed Head) where
-  pub heads_after : (h : ExprHead) → HeadReads s t n d P h → HeadReads s t n c P h
+  pub heads_after : (h : Answer ExprHead) → HeadReads s t n d P h → HeadReads s t n c P h
   unfolding HeadReads
-  heads_after (Whole i at f) x = (x.0, x.1, x.2, x.3, reached_after s t n to x.4)
-  heads_after (Parens f) x = (x.0, x.1, reached_after s t n to x.2)
-  heads_after (UnaryHead k at f) x = (x.0, x.1, x.2, x.3, reached_after s t n to x.4)
-  heads_after (TwoHead (BinaryParts k) at f) x = (x.0, x.1, x.2, x.3, reached_after s t n to x.4)
-  heads_after (TwoHead LeftParts at f) x = (x.0, x.1, reached_after s t n to x.2)
-  heads_after (TwoHead RightParts at f) x = (x.0, x.1, reached_after s t n to x.2)
-  heads_after (NoHead r) x = x
+  heads_after (Ok (Whole i at, f)) x = (x.0, x.1, x.2, x.3, reached_after s t n to x.4)
+  heads_after (Ok (Parens, f)) x = (x.0, x.1, reached_after s t n to x.2)
+  heads_after (Ok (UnaryHead k at, f)) x = (x.0, x.1, x.2, x.3, reached_after s t n to x.4)
+  heads_after (Ok (TwoHead (BinaryParts k) at, f)) x = (x.0, x.1, x.2, x.3, reached_after s t n to x.4)
+  heads_after (Ok (TwoHead LeftParts at, f)) x = (x.0, x.1, reached_after s t n to x.2)
+  heads_after (Ok (TwoHead RightParts at, f)) x = (x.0, x.1, reached_after s t n to x.2)
+  heads_after (Err r) x = x
 
 module _ (s jets tokens : List ℕ) (n : ℕ) (c : Cursor) (ready : Ready n c) where
   abbrev checks : Checks
@@ -90,7 +88,7 @@ module _ (s jets tokens : List ℕ) (n : ℕ) (c : Cursor) (ready : Ready n c) w
   abbrev left : List Token
   left = tokens_left s tokens n c.token.0
 
-  abbrev Is : Parsed Head → ExprHead → Type 0
+  abbrev Is : Parsed Head → Answer ExprHead → Type 0
   Is P h = HeadReads s tokens n c P h
 
   -- ---- behind `?`, const and fail
@@ -100,7 +98,7 @@ module _ (s jets tokens : List ℕ) (n : ℕ) (c : Cursor) (ready : Ready n c) w
   hole_reads [] e = (ParseFailed, [], refl, refl)
   hole_reads (u ∷ rest) e = go (is_of u names) refl
     where
-      go : (b : Bool) → is_of u names ≡ b → Is (go_on (if b then got u rest else stop ParseFailed (u ∷ rest)) (λ x. got (leaf (tree.hole x)))) (if b then Whole (Hole (span_of u)) (record { 0 = u.start }) (stepped c) else NoHead (refusal_at (length s) ParseFailed (u ∷ rest)))
+      go : (b : Bool) → is_of u names ≡ b → Is (go_on (if b then got u rest else stop ParseFailed (u ∷ rest)) (λ x. got (leaf (tree.hole x)))) (if b then Ok (Whole (Hole (span_of u)) (record { 0 = u.start }), (stepped c)) else Err (refusal_at (length s) ParseFailed (u ∷ rest)))
       go true f = (tree.hole u, rest, refl, leaf_hole u, reached_first s tokens n u ready e)
       go false f = (ParseFailed, u ∷ rest, refl, refl)
 
@@ -135,22 +133,22 @@ module _ (s jets tokens : List ℕ) (n : ℕ) (c : Cursor) (ready : Ready n c) w
     jet_reads (Ok _) g = rw g (tree.jet t, left, refl, leaf_jet t, reached_none s tokens n ready)
     jet_reads (Err x) g = rw g (x, t ∷ left, refl, refl)
 
-    module _ (h : ExprHead) where
+    module _ (h : Answer ExprHead) where
       abbrev Reads : Type 0
       Reads = Is (head checks (t ∷ left)) h
 
-      along : (P : Parsed Head) (k : ExprHead) → head checks (t ∷ left) ≡ P → h ≡ k → Is P k → Reads
+      along : (P : Parsed Head) (k : Answer ExprHead) → head checks (t ∷ left) ≡ P → h ≡ k → Is P k → Reads
       along P k e f x = subst (λ (Q : Parsed Head). Is Q h) (sym e) (subst (Is P) (sym f) x)
 
       pub head_hole : r.kind.0 ≡ token.number token.question → h ≡ hole_head (length s) c left → Reads
       unfolding head choice entry go_on
       head_hole e f = along (hole checks left) (hole_head (length s) c left) (rw e) f (hole_reads left refl)
 
-      pub head_word : {p : LiteralAnswer} → r.kind.0 ≡ token.number token.const → p ≡ literal_answer (length s) c left → h ≡ word_head p → Reads
+      pub head_word : {p : Answer (Span × ℕ)} → r.kind.0 ≡ token.number token.const → p ≡ literal_answer (length s) c left → h ≡ word_head p → Reads
       unfolding head choice entry go_on
       head_word e g f = along (word checks left) (word_head (literal_answer (length s) c left)) (rw e) (f ∙ ap word_head g) (word_reads left refl)
 
-      pub head_fail : {p : LiteralAnswer} → r.kind.0 ≡ token.number token.fail → p ≡ literal_answer (length s) c left → h ≡ fail_head r.span.start p → Reads
+      pub head_fail : {p : Answer (Span × ℕ)} → r.kind.0 ≡ token.number token.fail → p ≡ literal_answer (length s) c left → h ≡ fail_head r.span.start p → Reads
       unfolding head choice entry go_on
       head_fail e g f = along (failing checks t.start left) (fail_head r.span.start (literal_answer (length s) c left)) (rw e) (f ∙ ap (fail_head r.span.start) g) (fail_reads t.start left refl)
 
@@ -159,27 +157,27 @@ module _ (s jets tokens : List ℕ) (n : ℕ) (c : Cursor) (ready : Ready n c) w
       head_jet e again f = along (jet checks t left) (tested_by (jet_verdict jets t.text) (Jet (span_of t)) r.span.start r.span c) (rw e) (f ∙ ap (λ (q : TokenRecord). tested_by (jet_verdict jets t.text) (Jet q.span) r.span.start r.span c) again) (jet_reads (jet_verdict jets t.text) refl)
 
     -- a name, by the record that is the token's own
-    ref_reads : r ≡ record_of t → head checks (t ∷ left) ≡ got (leaf (tree.ref t)) left → Is (head checks (t ∷ left)) (Whole (Reference r.span) r.span.start c)
+    ref_reads : r ≡ record_of t → head checks (t ∷ left) ≡ got (leaf (tree.ref t)) left → Is (head checks (t ∷ left)) (Ok (Whole (Reference r.span) r.span.start, c))
     unfolding HeadReads
-    ref_reads again e = subst (λ (q : TokenRecord). Is (head checks (t ∷ left)) (Whole (Reference q.span) r.span.start c)) (sym again) (tree.ref t, left, e, leaf_ref t, reached_none s tokens n ready)
+    ref_reads again e = subst (λ (q : TokenRecord). Is (head checks (t ∷ left)) (Ok (Whole (Reference q.span) r.span.start, c))) (sym again) (tree.ref t, left, e, leaf_ref t, reached_none s tokens n ready)
 
-    pub head_symbol : r.kind.0 ≡ token.number token.symbol → r ≡ record_of t → Is (head checks (t ∷ left)) (Whole (Reference r.span) r.span.start c)
+    pub head_symbol : r.kind.0 ≡ token.number token.symbol → r ≡ record_of t → Is (head checks (t ∷ left)) (Ok (Whole (Reference r.span) r.span.start, c))
     unfolding head choice entry go_on
     head_symbol e again = ref_reads again (rw e)
 
-    pub head_underscore : r.kind.0 ≡ token.number token.underscore → r ≡ record_of t → Is (head checks (t ∷ left)) (Whole (Reference r.span) r.span.start c)
+    pub head_underscore : r.kind.0 ≡ token.number token.underscore → r ≡ record_of t → Is (head checks (t ∷ left)) (Ok (Whole (Reference r.span) r.span.start, c))
     unfolding head choice entry go_on
     head_underscore e again = ref_reads again (rw e)
 
-    pub head_parens : r.kind.0 ≡ token.number token.lparen → Is (head checks (t ∷ left)) (Parens c)
+    pub head_parens : r.kind.0 ≡ token.number token.lparen → Is (head checks (t ∷ left)) (Ok (Parens, c))
     unfolding HeadReads head choice entry go_on
     head_parens e = (left, rw e, reached_none s tokens n ready)
 
-    pub head_assertl : r.kind.0 ≡ token.number token.assertl → Is (head checks (t ∷ left)) (TwoHead LeftParts r.span.start c)
+    pub head_assertl : r.kind.0 ≡ token.number token.assertl → Is (head checks (t ∷ left)) (Ok (TwoHead LeftParts r.span.start, c))
     unfolding HeadReads head choice entry go_on
     head_assertl e = (left, rw e, reached_none s tokens n ready)
 
-    pub head_assertr : r.kind.0 ≡ token.number token.assertr → Is (head checks (t ∷ left)) (TwoHead RightParts r.span.start c)
+    pub head_assertr : r.kind.0 ≡ token.number token.assertr → Is (head checks (t ∷ left)) (Ok (TwoHead RightParts r.span.start, c))
     unfolding HeadReads head choice entry go_on
     head_assertr e = (left, rw e, reached_none s tokens n ready)
 
@@ -209,22 +207,22 @@ module _ (s jets tokens : List ℕ) (n : ℕ) (c : Cursor) (ready : Ready n c) w
     abbrev others : List ℕ
     others = map token.number (token.assertr ∷ token.assertl ∷ token.lparen ∷ token.underscore ∷ token.symbol ∷ token.jet ∷ token.fail ∷ token.const ∷ token.question ∷ [])
 
-    keyword_reads : (w : Keyword) → NotIn others r.kind.0 → KeywordIs r.kind.0 w → Is (head checks (t ∷ left)) (keyword_head w r.span.start c)
+    keyword_reads : (w : Option Keyword) → NotIn others r.kind.0 → KeywordIs r.kind.0 w → Is (head checks (t ∷ left)) (keyword_head w r.span.start c)
     unfolding HeadReads KeywordIs keyword_head head go_on
-    keyword_reads (NullaryWord k) rest x =
+    keyword_reads (Some (NullaryWord k)) rest x =
         let y : LeafExpr (tree.nullary x.0 t.start) (Nullary k) r.span.start = subst (λ (q : NodeKind). LeafExpr (tree.nullary x.0 t.start) (Nullary q) r.span.start) (sym x.2) (leaf_nullary x.0 t.start) in
         (tree.nullary x.0 t.start, left, nullary_is x.0 x.1, y, reached_none s tokens n ready)
-    keyword_reads (UnaryWord k) rest x = (x.0, left, unary_is x.0 x.1, x.2, reached_none s tokens n ready)
-    keyword_reads (BinaryWord k) rest x = (x.0, left, binary_is x.0 x.1, x.2, reached_none s tokens n ready)
-    keyword_reads OtherWord rest x = (ParseFailed, t ∷ left, rw (choice_none (leaf_heads checks ++ inner_heads checks) (others ++ map token.number part_keywords) t left refl (not_both others (map token.number part_keywords) r.kind.0 rest x)), refl)
+    keyword_reads (Some (UnaryWord k)) rest x = (x.0, left, unary_is x.0 x.1, x.2, reached_none s tokens n ready)
+    keyword_reads (Some (BinaryWord k)) rest x = (x.0, left, binary_is x.0 x.1, x.2, reached_none s tokens n ready)
+    keyword_reads None rest x = (ParseFailed, t ∷ left, rw (choice_none (leaf_heads checks ++ inner_heads checks) (others ++ map token.number part_keywords) t left refl (not_both others (map token.number part_keywords) r.kind.0 rest x)), refl)
 
-    pub head_keyword : (w : Keyword) (h : ExprHead) → NotIn others r.kind.0 → KeywordIs r.kind.0 w → h ≡ keyword_head w r.span.start c → Is (head checks (t ∷ left)) h
+    pub head_keyword : (w : Option Keyword) (h : Answer ExprHead) → NotIn others r.kind.0 → KeywordIs r.kind.0 w → h ≡ keyword_head w r.span.start c → Is (head checks (t ∷ left)) h
     head_keyword w h rest x f = subst (Is (head checks (t ∷ left))) (sym f) (keyword_reads w rest x)
 
   -- ---- at the cursor
 
-  module _ {a : Ahead} (e : a ≡ peeked c left) where
-    pub headed : (r : TokenRecord) (b : Cursor) (h : ExprHead) → a ≡ Next r b → (Ready n b → r ≡ record_of (token_of s r) → HeadReads s tokens n b (head checks (token_of s r ∷ tokens_left s tokens n b.token.0)) h) → Is (head checks left) h
+  module _ {a : Option (TokenRecord × Cursor)} (e : a ≡ peeked c left) where
+    pub headed : (r : TokenRecord) (b : Cursor) (h : Answer ExprHead) → a ≡ Some (r, b) → (Ready n b → r ≡ record_of (token_of s r) → HeadReads s tokens n b (head checks (token_of s r ∷ tokens_left s tokens n b.token.0)) h) → Is (head checks left) h
     headed r b h f reads =
         let x = next_is s tokens n c e r b f in
         let u : Token = token_at s tokens (c.token.0 + 1) in
@@ -235,6 +233,6 @@ module _ (s jets tokens : List ℕ) (n : ℕ) (c : Cursor) (ready : Ready n c) w
         let from = subst (λ (v : Token). HeadReads s tokens n (stepped c) (head checks (v ∷ tokens_left s tokens n (c.token.0 + 1))) h) same is in
         heads_after s tokens n to (head checks left) h (subst (λ (ts : List Token). HeadReads s tokens n (stepped c) (head checks ts) h) (sym x.0) from)
 
-    pub headless : {h : ExprHead} → a ≡ End → h ≡ NoHead (refusal_at (length s) ParseFailed left) → Is (head checks left) h
+    pub headless : {h : Answer ExprHead} → a ≡ None → h ≡ Err (refusal_at (length s) ParseFailed left) → Is (head checks left) h
     unfolding HeadReads head choice go_on
     headless f g = subst (Is (head checks left)) (sym g) (ParseFailed, left, rw (ahead_end c a left e f), refl)

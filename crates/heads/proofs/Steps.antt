@@ -1,5 +1,5 @@
 -- What each small function answers, by the tests and the matches that came before it. Assumes nothing.
-use Rattle.std.specs.Prelude.{if◌then◌else◌, Result}
+use Rattle.std.specs.Prelude.{if◌then◌else◌, Result, Err, None, Ok, Option, Some}
 use Prim.Native.Nat.{ℕ, ◌+◌, ◌≤◌}
 use mathlib.Core.Bool.{Bool, true, false, ◌||◌}
 use mathlib.Core.Path.{◌≡◌, refl, sym, ap, ◌∙◌}
@@ -22,10 +22,8 @@ use Rattle.literals.specs.Literals.{bit_length, span_text}
 use Rattle.checks.specs.Checks.{word_verdict, fail_verdict, jet_verdict}
 use Rattle.cursor.specs.declared.Cursor.{Cursor}
 use Rattle.cursor.specs.declared.ParseRefusal.{ParseRefusal}
-use Rattle.cursor.specs.declared.Ahead.{Ahead}
-use Rattle.cursor.specs.declared.Ahead.TheVariants.{Next, End}
 use Rattle.cursor.specs.Tokens.{token_at, token_of_kind, tokens_left}
-use Rattle.cursor.specs.Cursor.{refusal_at, stepped, peeked}
+use Rattle.cursor.specs.Cursor.{refusal_at, stepped, peeked, Answer}
 use Rattle.cursor.proofs.Laws.{text_length, left_next}
 use Rattle.cursor.proofs.Reached.{some_left}
 use Rattle.cursor.proofs.Steps.{ahead_end, ahead_next}
@@ -35,13 +33,11 @@ use Rattle.grammar.specs.Part.{span_of}
 use Rattle.heads.specs.declared.Cmr.{Cmr}
 use Rattle.heads.specs.declared.ExprInner.{ExprInner}
 use Rattle.heads.specs.declared.ExprInner.TheVariants.{AssertL, AssertR, Hole, Fail, Jet, Word}
-use Rattle.heads.specs.declared.LiteralAnswer.{LiteralAnswer}
-use Rattle.heads.specs.declared.LiteralAnswer.TheVariants.{Read as ReadLiteral, Refused as NoLiteral}
-use Rattle.heads.specs.declared.ExprHead.{ExprHead}
-use Rattle.heads.specs.declared.ExprHead.TheVariants.{Whole, Refused as NoHead}
-use Rattle.heads.specs.declared.Keyword.{Keyword}
 use Rattle.heads.specs.Answers.{record_with, expr_record_by, literal_answer, hole_head, tested_by, word_head, fail_head, keyword_head}
 use Rattle.checks.specs.declared.Fault.{Fault}
+use Rattle.heads.specs.declared.ExprHead.{ExprHead}
+use Rattle.heads.specs.declared.ExprHead.TheVariants.{Whole}
+use Rattle.heads.specs.declared.Keyword.{Keyword}
 
 -- ---- records
 
@@ -59,30 +55,30 @@ right_as e at f g = g ∙ ap (λ (q : Cmr). expr_record_by (AssertR q e) at) (sy
 
 -- ---- heads
 
-pub keyword_as : {w v : Keyword} (at : ByteOffset) (c : Cursor) → w ≡ v → keyword_head v at c ≡ keyword_head w at c
-keyword_as at c e = ap (λ (q : Keyword). keyword_head q at c) (sym e)
+pub keyword_as : {w v : Option Keyword} (at : ByteOffset) (c : Cursor) → w ≡ v → keyword_head v at c ≡ keyword_head w at c
+keyword_as at c e = ap (λ (q : Option Keyword). keyword_head q at c) (sym e)
 
 pub tested_as : {v w : Result (Unit {0}) Fault} (i : ExprInner) (at : ByteOffset) (s : Span) (c : Cursor) → v ≡ w → tested_by w i at s c ≡ tested_by v i at s c
 tested_as i at s c e = ap (λ (q : Result (Unit {0}) Fault). tested_by q i at s c) (sym e)
 
-module _ {p : LiteralAnswer} where
-  pub word_read : {s : Span} {bits : ℕ} {c : Cursor} {v : Result (Unit {0}) Fault} {h : ExprHead} → p ≡ ReadLiteral s bits c → v ≡ word_verdict bits → h ≡ tested_by v (Word s) s.start s c → h ≡ word_head p
+module _ {p : Answer (Span × ℕ)} where
+  pub word_read : {s : Span} {bits : ℕ} {c : Cursor} {v : Result (Unit {0}) Fault} {h : Answer ExprHead} → p ≡ Ok ((s, bits), c) → v ≡ word_verdict bits → h ≡ tested_by v (Word s) s.start s c → h ≡ word_head p
   unfolding word_head
   word_read {s} {c = c} e f g = g ∙ ap (λ (q : Result (Unit {0}) Fault). tested_by q (Word s) s.start s c) f ∙ ap word_head (sym e)
 
-  pub word_refused : {x : ParseRefusal} → p ≡ NoLiteral x → NoHead x ≡ word_head p
+  pub word_refused : {x : ParseRefusal} → p ≡ Err x → Err x ≡ word_head p
   unfolding word_head
   word_refused e = rw e
 
-  pub fail_read : {s : Span} {bits : ℕ} {c : Cursor} {v : Result (Unit {0}) Fault} (at : ByteOffset) {h : ExprHead} → p ≡ ReadLiteral s bits c → v ≡ fail_verdict bits → h ≡ tested_by v (Fail s) at s c → h ≡ fail_head at p
+  pub fail_read : {s : Span} {bits : ℕ} {c : Cursor} {v : Result (Unit {0}) Fault} (at : ByteOffset) {h : Answer ExprHead} → p ≡ Ok ((s, bits), c) → v ≡ fail_verdict bits → h ≡ tested_by v (Fail s) at s c → h ≡ fail_head at p
   unfolding fail_head
   fail_read {s} {c = c} at e f g = g ∙ ap (λ (q : Result (Unit {0}) Fault). tested_by q (Fail s) at s c) f ∙ ap (fail_head at) (sym e)
 
-  pub fail_refused : {x : ParseRefusal} (at : ByteOffset) → p ≡ NoLiteral x → NoHead x ≡ fail_head at p
+  pub fail_refused : {x : ParseRefusal} (at : ByteOffset) → p ≡ Err x → Err x ≡ fail_head at p
   unfolding fail_head
   fail_refused at e = rw e
 
-pub jet_tested : (source jets text : List ℕ) (s : Span) (c : Cursor) {v : Result (Unit {0}) Fault} {h : ExprHead} → text ≡ span_text source s → v ≡ jet_verdict jets text → h ≡ tested_by v (Jet s) s.start s c → h ≡ tested_by (jet_verdict jets (span_text source s)) (Jet s) s.start s c
+pub jet_tested : (source jets text : List ℕ) (s : Span) (c : Cursor) {v : Result (Unit {0}) Fault} {h : Answer ExprHead} → text ≡ span_text source s → v ≡ jet_verdict jets text → h ≡ tested_by v (Jet s) s.start s c → h ≡ tested_by (jet_verdict jets (span_text source s)) (Jet s) s.start s c
 jet_tested source jets text s c e f g = g ∙ ap (λ (q : Result (Unit {0}) Fault). tested_by q (Jet s) s.start s c) (f ∙ ap (jet_verdict jets) e)
 
 -- ---- the next token
@@ -97,16 +93,16 @@ of_three false false false = refl
 pub literal_test : (k : TokenKind) → ((eqb k.0 (token.number token.underscore) || eqb k.0 (token.number token.bin)) || eqb k.0 (token.number token.hex)) ≡ is_of (token_of_kind k) literals
 literal_test k = of_three (eqb k.0 (token.number token.underscore)) (eqb k.0 (token.number token.bin)) (eqb k.0 (token.number token.hex))
 
-module _ (end : ℕ) (c : Cursor) {a : Ahead} (ts : List Token) (e : a ≡ peeked c ts) where
-  pub literal_end : {x : ParseRefusal} → a ≡ End → x ≡ refusal_at end ParseFailed ts → NoLiteral x ≡ literal_answer end c ts
+module _ (end : ℕ) (c : Cursor) {a : Option (TokenRecord × Cursor)} (ts : List Token) (e : a ≡ peeked c ts) where
+  pub literal_end : {x : ParseRefusal} → a ≡ None → x ≡ refusal_at end ParseFailed ts → Err x ≡ literal_answer end c ts
   unfolding literal_answer
   literal_end f g = let z = ahead_end c a ts e f in rw (g, z)
 
-  pub hole_end : {h : ExprHead} → a ≡ End → h ≡ NoHead (refusal_at end ParseFailed ts) → h ≡ hole_head end c ts
+  pub hole_end : {h : Answer ExprHead} → a ≡ None → h ≡ Err (refusal_at end ParseFailed ts) → h ≡ hole_head end c ts
   unfolding hole_head
   hole_end f g = let z = ahead_end c a ts e f in rw (g, z)
 
-  module _ (r : TokenRecord) (b : Cursor) (f : a ≡ Next r b) where
+  module _ (r : TokenRecord) (b : Cursor) (f : a ≡ Some (r, b)) where
     found : (t : Token) × (rest : List Token) × (ts ≡ t ∷ rest) × (r ≡ record_of t) × (b ≡ stepped c)
     found = ahead_next c a ts r b e f
 
@@ -116,41 +112,41 @@ module _ (end : ℕ) (c : Cursor) {a : Ahead} (ts : List Token) (e : a ≡ peeke
     name_by : (t : Token) (rest : List Token) {y : Bool} → r ≡ record_of t → y ≡ is_of (token_of_kind r.kind) names → {x : Bool} → y ≡ x → is_of t names ≡ x
     name_by t rest h g k = sym (ap (λ (q : TokenRecord). is_of (token_of_kind q.kind) names) h) ∙ sym g ∙ k
 
-    pub literal_read : {y : Bool} {bits : ℕ} → y ≡ is_of (token_of_kind r.kind) literals → y ≡ true → bits ≡ bit_length r.kind r.span.len → ReadLiteral r.span bits b ≡ literal_answer end c ts
+    pub literal_read : {y : Bool} {bits : ℕ} → y ≡ is_of (token_of_kind r.kind) literals → y ≡ true → bits ≡ bit_length r.kind r.span.len → Ok ((r.span, bits), b) ≡ literal_answer end c ts
     unfolding literal_answer
     literal_read g k l =
         let t = found.0 in
         let rest = found.1 in
         let yes : is_of t literals ≡ true = literal_by t rest found.3 g k in
-        let is : literal_answer end c (t ∷ rest) ≡ ReadLiteral (span_of t) (bit_length t.kind (length t.text)) (stepped c) = rw yes in
-        rw (l, found.4) (ap (λ (q : TokenRecord). ReadLiteral q.span (bit_length q.kind q.span.len) (stepped c)) found.3 ∙ sym is ∙ ap (literal_answer end c) (sym found.2))
+        let is : literal_answer end c (t ∷ rest) ≡ Ok (((span_of t), (bit_length t.kind (length t.text))), (stepped c)) = rw yes in
+        rw (l, found.4) (ap (λ (q : TokenRecord). Ok ((q.span, (bit_length q.kind q.span.len)), (stepped c))) found.3 ∙ sym is ∙ ap (literal_answer end c) (sym found.2))
 
-    pub literal_other : {y : Bool} {x : ParseRefusal} → y ≡ is_of (token_of_kind r.kind) literals → y ≡ false → x ≡ refusal_at end ParseFailed ts → NoLiteral x ≡ literal_answer end c ts
+    pub literal_other : {y : Bool} {x : ParseRefusal} → y ≡ is_of (token_of_kind r.kind) literals → y ≡ false → x ≡ refusal_at end ParseFailed ts → Err x ≡ literal_answer end c ts
     unfolding literal_answer
     literal_other g k l =
         let t = found.0 in
         let rest = found.1 in
         let no : is_of t literals ≡ false = literal_by t rest found.3 g k in
-        let is : literal_answer end c (t ∷ rest) ≡ NoLiteral (refusal_at end ParseFailed (t ∷ rest)) = rw no in
-        ap NoLiteral (l ∙ ap (refusal_at end ParseFailed) found.2) ∙ sym is ∙ ap (literal_answer end c) (sym found.2)
+        let is : literal_answer end c (t ∷ rest) ≡ Err (refusal_at end ParseFailed (t ∷ rest)) = rw no in
+        ap Err (l ∙ ap (refusal_at end ParseFailed) found.2) ∙ sym is ∙ ap (literal_answer end c) (sym found.2)
 
-    pub hole_read : {y : Bool} → y ≡ is_of (token_of_kind r.kind) names → y ≡ true → Whole (Hole r.span) r.span.start b ≡ hole_head end c ts
+    pub hole_read : {y : Bool} → y ≡ is_of (token_of_kind r.kind) names → y ≡ true → Ok (Whole (Hole r.span) r.span.start, b) ≡ hole_head end c ts
     unfolding hole_head
     hole_read g k =
         let t = found.0 in
         let rest = found.1 in
         let yes : is_of t names ≡ true = name_by t rest found.3 g k in
-        let is : hole_head end c (t ∷ rest) ≡ Whole (Hole (span_of t)) (record { 0 = t.start }) (stepped c) = rw yes in
-        rw found.4 (ap (λ (q : TokenRecord). Whole (Hole q.span) q.span.start (stepped c)) found.3 ∙ sym is ∙ ap (hole_head end c) (sym found.2))
+        let is : hole_head end c (t ∷ rest) ≡ Ok (Whole (Hole (span_of t)) (record { 0 = t.start }), (stepped c)) = rw yes in
+        rw found.4 (ap (λ (q : TokenRecord). Ok (Whole (Hole q.span) q.span.start, (stepped c))) found.3 ∙ sym is ∙ ap (hole_head end c) (sym found.2))
 
-    pub hole_other : {y : Bool} {h : ExprHead} → y ≡ is_of (token_of_kind r.kind) names → y ≡ false → h ≡ NoHead (refusal_at end ParseFailed ts) → h ≡ hole_head end c ts
+    pub hole_other : {y : Bool} {h : Answer ExprHead} → y ≡ is_of (token_of_kind r.kind) names → y ≡ false → h ≡ Err (refusal_at end ParseFailed ts) → h ≡ hole_head end c ts
     unfolding hole_head
     hole_other g k l =
         let t = found.0 in
         let rest = found.1 in
         let no : is_of t names ≡ false = name_by t rest found.3 g k in
-        let is : hole_head end c (t ∷ rest) ≡ NoHead (refusal_at end ParseFailed (t ∷ rest)) = rw no in
-        l ∙ ap (λ (us : List Token). NoHead (refusal_at end ParseFailed us)) found.2 ∙ sym is ∙ ap (hole_head end c) (sym found.2)
+        let is : hole_head end c (t ∷ rest) ≡ Err (refusal_at end ParseFailed (t ∷ rest)) = rw no in
+        l ∙ ap (λ (us : List Token). Err (refusal_at end ParseFailed us)) found.2 ∙ sym is ∙ ap (hole_head end c) (sym found.2)
 
 -- ---- the token that was peeked
 
@@ -161,7 +157,7 @@ text_inside source a m = rw (text_length source a m) (go (leb (a + m) (length so
     go true e = omega (arith, leb-true (a + m) (length source) e)
     go false e = omega arith
 
-module _ (source tokens : List ℕ) (n : ℕ) (c : Cursor) {a : Ahead} (e : a ≡ peeked c (tokens_left source tokens n c.token.0)) (r : TokenRecord) (b : Cursor) (f : a ≡ Next r b) where
+module _ (source tokens : List ℕ) (n : ℕ) (c : Cursor) {a : Option (TokenRecord × Cursor)} (e : a ≡ peeked c (tokens_left source tokens n c.token.0)) (r : TokenRecord) (b : Cursor) (f : a ≡ Some (r, b)) where
   -- it is that of the table
   pub next_is : (tokens_left source tokens n c.token.0 ≡ token_at source tokens (c.token.0 + 1) ∷ tokens_left source tokens n (c.token.0 + 1)) × (r ≡ record_of (token_at source tokens (c.token.0 + 1))) × (b ≡ stepped c)
   next_is =

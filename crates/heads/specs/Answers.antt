@@ -1,6 +1,6 @@
 -- What begins an expression: the answers of the functions that look at its first tokens, beside what the grammar says of them; and
 -- the record of an expression whose parts are numbers.
-use Rattle.std.specs.Prelude.{ℕ, ◌+◌, ◌≡◌, List, [], ◌∷◌, map, length, if◌then◌else◌, Err, Ok, Result}
+use Rattle.std.specs.Prelude.{ℕ, ◌+◌, ◌≡◌, List, [], ◌∷◌, map, length, if◌then◌else◌, Err, Ok, Result, None, Option, Some}
 use Rattle.records.specs.TokenKind as token
 use Rattle.records.specs.NodeKind as node
 use Rattle.records.specs.Records.{no_span}
@@ -16,7 +16,7 @@ use Rattle.checks.specs.declared.Fault.TheVariants.{ParseFailed}
 use Rattle.literals.specs.Literals.{bit_length}
 use Rattle.checks.specs.Checks.{word_verdict, fail_verdict}
 use Rattle.cursor.specs.declared.Cursor.{Cursor}
-use Rattle.cursor.specs.Cursor.{refusal_at, stepped, Reached}
+use Rattle.cursor.specs.Cursor.{refusal_at, stepped, Reached, Answer}
 use Rattle.grammar.specs.Tree as tree
 use Rattle.grammar.specs.Tree.{nullary_token, Unary, unary_token, Binary, binary_token, Expr}
 use Rattle.grammar.specs.Rule.{Parsed, got, stop, is_of}
@@ -26,13 +26,11 @@ use Rattle.grammar.specs.Recorded.{part_no, expr_records}
 use Rattle.heads.specs.declared.Cmr.TheVariants.{Expr as OfExpr, Literal}
 use Rattle.heads.specs.declared.ExprInner.{ExprInner}
 use Rattle.heads.specs.declared.ExprInner.TheVariants.{Reference, AssertL, AssertR, Nullary, Unary as One, Binary as Two, Hole, Fail, Jet, Word}
-use Rattle.heads.specs.declared.LiteralAnswer.{LiteralAnswer}
-use Rattle.heads.specs.declared.LiteralAnswer.TheVariants.{Read as ReadLiteral, Refused as NoLiteral}
 use Rattle.heads.specs.declared.TwoParts.TheVariants.{Binary as BinaryParts, AssertL as LeftParts, AssertR as RightParts}
 use Rattle.heads.specs.declared.ExprHead.{ExprHead}
-use Rattle.heads.specs.declared.ExprHead.TheVariants.{Whole, Parens, Unary as UnaryHead, Two as TwoHead, Refused as NoHead}
+use Rattle.heads.specs.declared.ExprHead.TheVariants.{Parens, Whole, Unary as UnaryHead, Two as TwoHead}
 use Rattle.heads.specs.declared.Keyword.{Keyword}
-use Rattle.heads.specs.declared.Keyword.TheVariants.{Nullary as NullaryWord, Unary as UnaryWord, Binary as BinaryWord, Other as OtherWord}
+use Rattle.heads.specs.declared.Keyword.TheVariants.{Nullary as NullaryWord, Unary as UnaryWord, Binary as BinaryWord}
 
 -- ---- records
 
@@ -70,45 +68,45 @@ abbrev pub of_part : node.PartKind → NodeKind
 of_part k = record { 0 = node.part_number k }
 
 -- what the grammar says of a head, the cursor c standing before it
-unfoldable pub HeadReads : (source tokens : List ℕ) → (n : ℕ) → Cursor → Parsed Head → ExprHead → Type 0
-HeadReads s t n c P (Whole i at d) = (e : Expr) × (rest : List Token) × (P ≡ got (leaf e) rest) × LeafExpr e i at × Reached s t n c d rest 0 0
-HeadReads s t n c P (Parens d) = (rest : List Token) × (P ≡ got parens rest) × Reached s t n c d rest 0 0
-HeadReads s t n c P (UnaryHead k at d) =
+unfoldable pub HeadReads : (source tokens : List ℕ) → (n : ℕ) → Cursor → Parsed Head → Answer ExprHead → Type 0
+HeadReads s t n c P (Ok (Whole i at, d)) = (e : Expr) × (rest : List Token) × (P ≡ got (leaf e) rest) × LeafExpr e i at × Reached s t n c d rest 0 0
+HeadReads s t n c P (Ok (Parens, d)) = (rest : List Token) × (P ≡ got parens rest) × Reached s t n c d rest 0 0
+HeadReads s t n c P (Ok (UnaryHead k at, d)) =
     (u : Unary) × (rest : List Token) × (P ≡ got (unary u at.0) rest) × (k ≡ of_part (unary_kind u)) × Reached s t n c d rest 0 0
-HeadReads s t n c P (TwoHead (BinaryParts k) at d) =
+HeadReads s t n c P (Ok (TwoHead (BinaryParts k) at, d)) =
     (b : Binary) × (rest : List Token) × (P ≡ got (binary b at.0) rest) × (k ≡ of_part (binary_kind b)) × Reached s t n c d rest 0 0
-HeadReads s t n c P (TwoHead LeftParts at d) = (rest : List Token) × (P ≡ got (assertl at.0) rest) × Reached s t n c d rest 0 0
-HeadReads s t n c P (TwoHead RightParts at d) = (rest : List Token) × (P ≡ got (assertr at.0) rest) × Reached s t n c d rest 0 0
-HeadReads s t n c P (NoHead r) = (x : Fault) × (rest : List Token) × (P ≡ stop x rest) × (r ≡ refusal_at (length s) x rest)
+HeadReads s t n c P (Ok (TwoHead LeftParts at, d)) = (rest : List Token) × (P ≡ got (assertl at.0) rest) × Reached s t n c d rest 0 0
+HeadReads s t n c P (Ok (TwoHead RightParts at, d)) = (rest : List Token) × (P ≡ got (assertr at.0) rest) × Reached s t n c d rest 0 0
+HeadReads s t n c P (Err r) = (x : Fault) × (rest : List Token) × (P ≡ stop x rest) × (r ≡ refusal_at (length s) x rest)
 
 -- a literal that has to come: its span and its bit length
-unfoldable pub literal_answer : (end : ℕ) → Cursor → List Token → LiteralAnswer
-literal_answer end c [] = NoLiteral (refusal_at end ParseFailed [])
+unfoldable pub literal_answer : (end : ℕ) → Cursor → List Token → Answer (Span × ℕ)
+literal_answer end c [] = Err (refusal_at end ParseFailed [])
 literal_answer end c (t ∷ ts) =
-    if is_of t literals then ReadLiteral (span_of t) (bit_length t.kind (length t.text)) (stepped c)
-    else NoLiteral (refusal_at end ParseFailed (t ∷ ts))
+    if is_of t literals then Ok (((span_of t), (bit_length t.kind (length t.text))), (stepped c))
+    else Err (refusal_at end ParseFailed (t ∷ ts))
 
 -- the name behind `?`, which is the place of the hole
-unfoldable pub hole_head : (end : ℕ) → Cursor → List Token → ExprHead
-hole_head end c [] = NoHead (refusal_at end ParseFailed [])
+unfoldable pub hole_head : (end : ℕ) → Cursor → List Token → Answer ExprHead
+hole_head end c [] = Err (refusal_at end ParseFailed [])
 hole_head end c (t ∷ ts) =
-    if is_of t names then Whole (Hole (span_of t)) (record { 0 = t.start }) (stepped c)
-    else NoHead (refusal_at end ParseFailed (t ∷ ts))
+    if is_of t names then Ok (Whole (Hole (span_of t)) (record { 0 = t.start }), (stepped c))
+    else Err (refusal_at end ParseFailed (t ∷ ts))
 
 -- an expression whose literal or jet, of this span, passed its test or did not
-unfoldable pub tested_by : Result (Unit {0}) Fault → ExprInner → (at : ByteOffset) → Span → Cursor → ExprHead
-tested_by (Ok _) i at s c = Whole i at c
-tested_by (Err x) i at s c = NoHead (record { fault = x; at = s.start })
+unfoldable pub tested_by : Result (Unit {0}) Fault → ExprInner → (at : ByteOffset) → Span → Cursor → Answer ExprHead
+tested_by (Ok _) i at s c = Ok (Whole i at, c)
+tested_by (Err x) i at s c = Err (record { fault = x; at = s.start })
 
 -- the literal behind `const`, which is its place
-unfoldable pub word_head : LiteralAnswer → ExprHead
-word_head (ReadLiteral s bits c) = tested_by (word_verdict bits) (Word s) s.start s c
-word_head (NoLiteral r) = NoHead r
+unfoldable pub word_head : Answer (Span × ℕ) → Answer ExprHead
+word_head (Ok ((s, bits), c)) = tested_by (word_verdict bits) (Word s) s.start s c
+word_head (Err r) = Err r
 
 -- the literal behind the `fail` that stands at this place
-unfoldable pub fail_head : ByteOffset → LiteralAnswer → ExprHead
-fail_head at (ReadLiteral s bits c) = tested_by (fail_verdict bits) (Fail s) at s c
-fail_head at (NoLiteral r) = NoHead r
+unfoldable pub fail_head : ByteOffset → Answer (Span × ℕ) → Answer ExprHead
+fail_head at (Ok ((s, bits), c)) = tested_by (fail_verdict bits) (Fail s) at s c
+fail_head at (Err r) = Err r
 
 -- the keywords with nothing but expressions behind them, the last first
 abbrev pub part_keywords : List token.Kind
@@ -117,14 +115,14 @@ part_keywords =
     token.witness ∷ token.iden ∷ token.unit ∷ []
 
 -- which of them the token kind of this number is
-unfoldable pub KeywordIs : (k : ℕ) → Keyword → Type 0
-KeywordIs k (NullaryWord n) = (u : tree.Nullary) × (k ≡ token.number (nullary_token u)) × (n ≡ of_part (nullary_kind u))
-KeywordIs k (UnaryWord n) = (u : Unary) × (k ≡ token.number (unary_token u)) × (n ≡ of_part (unary_kind u))
-KeywordIs k (BinaryWord n) = (u : Binary) × (k ≡ token.number (binary_token u)) × (n ≡ of_part (binary_kind u))
-KeywordIs k OtherWord = NotIn (map token.number part_keywords) k
+unfoldable pub KeywordIs : (k : ℕ) → Option Keyword → Type 0
+KeywordIs k (Some (NullaryWord n)) = (u : tree.Nullary) × (k ≡ token.number (nullary_token u)) × (n ≡ of_part (nullary_kind u))
+KeywordIs k (Some (UnaryWord n)) = (u : Unary) × (k ≡ token.number (unary_token u)) × (n ≡ of_part (unary_kind u))
+KeywordIs k (Some (BinaryWord n)) = (u : Binary) × (k ≡ token.number (binary_token u)) × (n ≡ of_part (binary_kind u))
+KeywordIs k None = NotIn (map token.number part_keywords) k
 
-unfoldable pub keyword_head : Keyword → ByteOffset → Cursor → ExprHead
-keyword_head (NullaryWord k) at c = Whole (Nullary k) at c
-keyword_head (UnaryWord k) at c = UnaryHead k at c
-keyword_head (BinaryWord k) at c = TwoHead (BinaryParts k) at c
-keyword_head OtherWord at c = NoHead (record { fault = ParseFailed; at = at })
+unfoldable pub keyword_head : Option Keyword → ByteOffset → Cursor → Answer ExprHead
+keyword_head (Some (NullaryWord k)) at c = Ok (Whole (Nullary k) at, c)
+keyword_head (Some (UnaryWord k)) at c = Ok (UnaryHead k at, c)
+keyword_head (Some (BinaryWord k)) at c = Ok (TwoHead (BinaryParts k) at, c)
+keyword_head None at c = Err (record { fault = ParseFailed; at = at })

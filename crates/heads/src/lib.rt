@@ -4,19 +4,17 @@
 ghost use Rattle.std.specs.Prelude.{◌≡◌, ◌∷◌, ◌≤◌, length};
 ghost use Rattle.records.specs.Limits.{source_limit};
 ghost use Rattle.lex.specs.Tokens.{record_of};
-ghost use Rattle.checks.specs.declared.Fault.TheVariants.{ParseFailed};
 ghost use Rattle.checks.specs.Checks.{jet_verdict, checks_of};
 ghost use Rattle.literals.specs.Literals.{span_text};
 ghost use Rattle.cursor.specs.Tokens.{token_of, token_of_kind, tokens_left};
-ghost use Rattle.cursor.specs.Cursor.{refusal_at, Ready};
+ghost use Rattle.cursor.specs.Cursor.{Ready};
 ghost use Rattle.grammar.specs.Rule.{is_of};
 ghost use Rattle.grammar.specs.Grammar.{literals, head};
 ghost use Rattle.heads.specs.Answers.{record_with, no_expr, expr_record_by, KeywordIs, keyword_head, tested_by, literal_answer, hole_head, word_head, fail_head, HeadReads};
 ghost use Rattle.heads.specs.declared.ExprInner.TheVariants.{AssertL, AssertR, Jet};
-ghost use Rattle.heads.specs.declared.ExprHead.TheVariants.{Refused as NoHead};
 
-use checks::{Fault, Verdict};
-use cursor::{Ahead, Cursor, ParseRefusal};
+use checks::Fault;
+use cursor::{Answer, Cursor, ParseRefusal, Tokens};
 use records::kinds::{NodeKind, TokenKind};
 use records::numbers::{ByteOffset, ExprNo};
 use records::{ExprRecord, Span, TokenRecord};
@@ -43,13 +41,6 @@ pub enum ExprInner {
     Word(Span),
 }
 
-// A literal, how many bits it has, and the cursor behind it; or a refusal.
-#[derive(Clone, Copy)]
-pub enum LiteralAnswer {
-    Read(Span, u32, Cursor),
-    Refused(ParseRefusal),
-}
-
 // A keyword with two parts: two expressions, an expression and a CMR, or a CMR and an expression.
 #[derive(Clone, Copy)]
 pub enum TwoParts {
@@ -58,14 +49,13 @@ pub enum TwoParts {
     AssertR,
 }
 
-// What begins an expression: a whole one with its place, or a parenthesis or a keyword whose parts follow; and the cursor behind it.
+// What begins an expression: a whole one with its place, or a parenthesis or a keyword whose parts follow.
 #[derive(Clone, Copy)]
 pub enum ExprHead {
-    Whole(ExprInner, ByteOffset, Cursor),
-    Parens(Cursor),
-    Unary(NodeKind, ByteOffset, Cursor),
-    Two(TwoParts, ByteOffset, Cursor),
-    Refused(ParseRefusal),
+    Whole(ExprInner, ByteOffset),
+    Parens,
+    Unary(NodeKind, ByteOffset),
+    Two(TwoParts, ByteOffset),
 }
 
 // A keyword by how many expressions follow it, with the kind of the expression.
@@ -74,15 +64,20 @@ pub enum Keyword {
     Nullary(NodeKind),
     Unary(NodeKind),
     Binary(NodeKind),
-    Other,
 }
 
 // The record of an expression with parts,
-fn parts_record(kind: u32, at: ByteOffset, left: ExprNo, right: ExprNo, span: Span) -> ExprRecord
-    ensures { result ≡ record_with kind at left right span }
+fn parts_record(
+    kind: NodeKind,
+    at: ByteOffset,
+    left: ExprNo,
+    right: ExprNo,
+    span: Span,
+) -> ExprRecord
+    ensures { result ≡ record_with kind.0 at left right span }
 {
     ExprRecord {
-        kind: NodeKind(kind),
+        kind,
         start: at,
         left,
         right,
@@ -91,8 +86,8 @@ fn parts_record(kind: u32, at: ByteOffset, left: ExprNo, right: ExprNo, span: Sp
 }
 
 // and one without.
-fn leaf_record(kind: u32, at: ByteOffset, span: Span) -> ExprRecord
-    ensures { result ≡ record_with kind at no_expr no_expr span }
+fn leaf_record(kind: NodeKind, at: ByteOffset, span: Span) -> ExprRecord
+    ensures { result ≡ record_with kind.0 at no_expr no_expr span }
 {
     parts_record(kind, at, ExprNo(0), ExprNo(0), span)
 }
@@ -127,9 +122,9 @@ impl ExprInner {
             ExprInner::Reference(span) => leaf_record(NodeKind::REFERENCE, at, span),
             ExprInner::AssertL(e, cmr) => assert_left_record(at, e, cmr),
             ExprInner::AssertR(cmr, e) => assert_right_record(at, cmr, e),
-            ExprInner::Nullary(kind) => leaf_record(kind.0, at, none),
-            ExprInner::Unary(kind, e) => parts_record(kind.0, at, e, ExprNo(0), none),
-            ExprInner::Binary(kind, l, r) => parts_record(kind.0, at, l, r, none),
+            ExprInner::Nullary(kind) => leaf_record(kind, at, none),
+            ExprInner::Unary(kind, e) => parts_record(kind, at, e, ExprNo(0), none),
+            ExprInner::Binary(kind, l, r) => parts_record(kind, at, l, r, none),
             ExprInner::Hole(span) => leaf_record(NodeKind::HOLE, at, span),
             ExprInner::Fail(span) => leaf_record(NodeKind::FAIL, at, span),
             ExprInner::Jet(span) => leaf_record(NodeKind::JET, at, span),
@@ -142,180 +137,146 @@ impl ExprInner {
 fn is_literal(kind: TokenKind) -> bool
     ensures { result ≡ is_of (token_of_kind kind) literals }
 {
-    let k = kind.0;
-    (k == TokenKind::UNDERSCORE) | (k == TokenKind::BIN_LITERAL) | (k == TokenKind::HEX_LITERAL)
+    (kind == TokenKind::UNDERSCORE)
+        | (kind == TokenKind::BIN_LITERAL)
+        | (kind == TokenKind::HEX_LITERAL)
 }
 
-// The Rust's `parse_literal`: the literal that has to come.
-fn parse_literal(source: &[u8], tokens: &[u32], count: u32, c: Cursor) -> LiteralAnswer
-    requires { length source.now ≤ source_limit }
-    ensures { result ≡ literal_answer (length source.now) c (tokens_left source.now tokens.now count c.token.0) }
+// The Rust's `parse_literal`: the literal that has to come, and how many bits it has.
+fn parse_literal(tokens: Tokens, c: Cursor) -> Answer<(Span, u32)>
+    requires { length tokens.source.now ≤ source_limit }
+    ensures { result ≡ literal_answer (length tokens.entry.source.now) c (tokens_left tokens.entry.source.now tokens.entry.table.now tokens.entry.count c.token.0) }
 {
-    match cursor::peek(source, tokens, count, c) {
-        Ahead::Next(t, d) => {
-            let kind = t.kind;
-            let span = t.span;
-            if is_literal(kind) {
-                return LiteralAnswer::Read(span, literals::bit_length(kind, span.len), d);
-            }
-            LiteralAnswer::Refused(cursor::refusal(source, tokens, count, c, Fault::ParseFailed))
+    match tokens.peek(c) {
+        Some((t, d)) if is_literal(t.kind) => {
+            let bits = literals::bit_length(t.kind, t.span.len);
+            Ok(((t.span, bits), d))
         }
-        Ahead::End => LiteralAnswer::Refused(cursor::refusal(
-            source,
-            tokens,
-            count,
-            c,
-            Fault::ParseFailed,
-        )),
+        _ => Err(tokens.refusal(c, Fault::ParseFailed)),
     }
 }
 
-// No expression begins at the cursor: refusal 6.
-fn no_head(source: &[u8], tokens: &[u32], count: u32, c: Cursor) -> ExprHead
-    requires { length source.now ≤ source_limit }
-    ensures { result ≡ NoHead (refusal_at (length source.now) ParseFailed (tokens_left source.now tokens.now count c.token.0)) }
-{
-    ExprHead::Refused(cursor::refusal(source, tokens, count, c, Fault::ParseFailed))
-}
-
 // Behind `?`: a name, which is the place of the hole.
-fn hole_head(source: &[u8], tokens: &[u32], count: u32, c: Cursor) -> ExprHead
-    requires { length source.now ≤ source_limit }
-    ensures { result ≡ hole_head (length source.now) c (tokens_left source.now tokens.now count c.token.0) }
+fn hole_head(tokens: Tokens, c: Cursor) -> Answer<ExprHead>
+    requires { length tokens.source.now ≤ source_limit }
+    ensures { result ≡ hole_head (length tokens.entry.source.now) c (tokens_left tokens.entry.source.now tokens.entry.table.now tokens.entry.count c.token.0) }
 {
-    match cursor::peek(source, tokens, count, c) {
-        Ahead::Next(t, d) => {
-            let kind = t.kind;
-            let span = t.span;
-            let at = span.start;
-            if cursor::is_name(kind) {
-                return ExprHead::Whole(ExprInner::Hole(span), at, d);
-            }
-            no_head(source, tokens, count, c)
+    match tokens.peek(c) {
+        Some((t, d)) if cursor::is_name(t.kind) => {
+            Ok((ExprHead::Whole(ExprInner::Hole(t.span), t.span.start), d))
         }
-        Ahead::End => no_head(source, tokens, count, c),
+        _ => Err(tokens.refusal(c, Fault::ParseFailed)),
     }
 }
 
 // A whole expression, if the literal or the jet of this span passed its test; refusals 7 to 10 stand there.
-fn tested(v: Verdict, inner: ExprInner, at: ByteOffset, span: Span, c: Cursor) -> ExprHead
-    ensures { result ≡ tested_by v inner at span c }
+fn tested(
+    test: Result<(), Fault>,
+    inner: ExprInner,
+    at: ByteOffset,
+    span: Span,
+    c: Cursor,
+) -> Answer<ExprHead>
+    ensures { result ≡ tested_by test inner at span c }
 {
-    let place = span.start;
-    match v {
-        Verdict::Pass => ExprHead::Whole(inner, at, c),
-        Verdict::Fails(fault) => ExprHead::Refused(ParseRefusal { fault, at: place }),
-    }
-}
-
-// Behind `const`: its place is the literal.
-fn word_head(p: LiteralAnswer) -> ExprHead
-    ensures { result ≡ word_head p }
-{
-    match p {
-        LiteralAnswer::Read(span, bits, c) => {
-            let at = span.start;
-            let verdict = checks::check_word(bits);
-            tested(verdict, ExprInner::Word(span), at, span, c)
-        }
-        LiteralAnswer::Refused(x) => ExprHead::Refused(x),
-    }
-}
-
-// Behind `fail`: its place is the keyword.
-fn fail_head(at: ByteOffset, p: LiteralAnswer) -> ExprHead
-    ensures { result ≡ fail_head at p }
-{
-    match p {
-        LiteralAnswer::Read(span, bits, c) => {
-            let verdict = checks::check_fail(bits);
-            tested(verdict, ExprInner::Fail(span), at, span, c)
-        }
-        LiteralAnswer::Refused(x) => ExprHead::Refused(x),
-    }
-}
-
-// A jet, by its token's text.
-fn jet_head(source: &[u8], jets: &[u8], span: Span, c: Cursor) -> ExprHead
-    ensures { result ≡ tested_by (jet_verdict jets.now (span_text source.now span)) (Jet span) span.start span c }
-{
-    let at = span.start;
-    let verdict = checks::check_jet(jets, cursor::span_text(source, span));
-    tested(verdict, ExprInner::Jet(span), at, span, c)
-}
-
-// Which keyword it is, of those with nothing but expressions behind them.
-fn keyword_of(k: u32) -> Keyword
-    ensures { KeywordIs k result }
-{
-    match k {
-        TokenKind::UNIT => Keyword::Nullary(NodeKind(NodeKind::UNIT)),
-        TokenKind::IDEN => Keyword::Nullary(NodeKind(NodeKind::IDEN)),
-        TokenKind::WITNESS => Keyword::Nullary(NodeKind(NodeKind::WITNESS)),
-        TokenKind::INJ_L => Keyword::Unary(NodeKind(NodeKind::INJ_L)),
-        TokenKind::INJ_R => Keyword::Unary(NodeKind(NodeKind::INJ_R)),
-        TokenKind::TAKE => Keyword::Unary(NodeKind(NodeKind::TAKE)),
-        TokenKind::DROP => Keyword::Unary(NodeKind(NodeKind::DROP)),
-        TokenKind::DISCONNECT => Keyword::Binary(NodeKind(NodeKind::DISCONNECT)),
-        TokenKind::CASE => Keyword::Binary(NodeKind(NodeKind::CASE)),
-        TokenKind::COMP => Keyword::Binary(NodeKind(NodeKind::COMP)),
-        TokenKind::PAIR => Keyword::Binary(NodeKind(NodeKind::PAIR)),
-        _ => Keyword::Other,
-    }
-}
-
-// What a keyword at this place begins; refusal 6 if it is none.
-fn keyword_head(w: Keyword, at: ByteOffset, c: Cursor) -> ExprHead
-    ensures { result ≡ keyword_head w at c }
-{
-    match w {
-        Keyword::Nullary(kind) => ExprHead::Whole(ExprInner::Nullary(kind), at, c),
-        Keyword::Unary(kind) => ExprHead::Unary(kind, at, c),
-        Keyword::Binary(kind) => ExprHead::Two(TwoParts::Binary(kind), at, c),
-        Keyword::Other => ExprHead::Refused(ParseRefusal {
-            fault: Fault::ParseFailed,
-            at,
+    match test {
+        Ok(()) => Ok((ExprHead::Whole(inner, at), c)),
+        Err(fault) => Err(ParseRefusal {
+            fault,
+            at: span.start,
         }),
     }
 }
 
-// What a token begins; c stands behind it.
-fn head_of(
-    source: &[u8],
-    jets: &[u8],
-    tokens: &[u32],
-    count: u32,
-    t: TokenRecord,
-    c: Cursor,
-) -> ExprHead
-    requires { length source.now ≤ source_limit }
-    ensures { Ready count c → t ≡ record_of (token_of source.now t) → HeadReads source.now tokens.now count c (head (checks_of jets.now) (token_of source.now t ∷ tokens_left source.now tokens.now count c.token.0)) result }
+// Behind `const`: its place is the literal.
+fn word_head(p: Answer<(Span, u32)>) -> Answer<ExprHead>
+    ensures { result ≡ word_head p }
 {
-    let kind = t.kind;
+    let ((span, bits), c) = p?;
+    let test = checks::check_word(bits);
+    tested(test, ExprInner::Word(span), span.start, span, c)
+}
+
+// Behind `fail`: its place is the keyword.
+fn fail_head(at: ByteOffset, p: Answer<(Span, u32)>) -> Answer<ExprHead>
+    ensures { result ≡ fail_head at p }
+{
+    let ((span, bits), c) = p?;
+    let test = checks::check_fail(bits);
+    tested(test, ExprInner::Fail(span), at, span, c)
+}
+
+// A jet, by its token's text.
+fn jet_head(source: &[u8], jets: &[u8], span: Span, c: Cursor) -> Answer<ExprHead>
+    ensures { result ≡ tested_by (jet_verdict jets.now (span_text source.now span)) (Jet span) span.start span c }
+{
+    let test = checks::check_jet(jets, cursor::span_text(source, span));
+    tested(test, ExprInner::Jet(span), span.start, span, c)
+}
+
+// Which keyword it is, of those with nothing but expressions behind them.
+fn keyword_of(kind: TokenKind) -> Option<Keyword>
+    ensures { KeywordIs kind.0 result }
+{
+    match kind {
+        TokenKind::UNIT => Some(Keyword::Nullary(NodeKind::UNIT)),
+        TokenKind::IDEN => Some(Keyword::Nullary(NodeKind::IDEN)),
+        TokenKind::WITNESS => Some(Keyword::Nullary(NodeKind::WITNESS)),
+        TokenKind::INJ_L => Some(Keyword::Unary(NodeKind::INJ_L)),
+        TokenKind::INJ_R => Some(Keyword::Unary(NodeKind::INJ_R)),
+        TokenKind::TAKE => Some(Keyword::Unary(NodeKind::TAKE)),
+        TokenKind::DROP => Some(Keyword::Unary(NodeKind::DROP)),
+        TokenKind::DISCONNECT => Some(Keyword::Binary(NodeKind::DISCONNECT)),
+        TokenKind::CASE => Some(Keyword::Binary(NodeKind::CASE)),
+        TokenKind::COMP => Some(Keyword::Binary(NodeKind::COMP)),
+        TokenKind::PAIR => Some(Keyword::Binary(NodeKind::PAIR)),
+        _ => None,
+    }
+}
+
+// What a keyword at this place begins; refusal 6 if it is none.
+fn keyword_head(w: Option<Keyword>, at: ByteOffset, c: Cursor) -> Answer<ExprHead>
+    ensures { result ≡ keyword_head w at c }
+{
+    let Some(keyword) = w else {
+        let fault = Fault::ParseFailed;
+        return Err(ParseRefusal { fault, at });
+    };
+    match keyword {
+        Keyword::Nullary(kind) => Ok((ExprHead::Whole(ExprInner::Nullary(kind), at), c)),
+        Keyword::Unary(kind) => Ok((ExprHead::Unary(kind, at), c)),
+        Keyword::Binary(kind) => Ok((ExprHead::Two(TwoParts::Binary(kind), at), c)),
+    }
+}
+
+// What a token begins; c stands behind it.
+fn head_of(jets: &[u8], tokens: Tokens, t: TokenRecord, c: Cursor) -> Answer<ExprHead>
+    requires { length tokens.source.now ≤ source_limit }
+    ensures { Ready tokens.entry.count c → t ≡ record_of (token_of tokens.entry.source.now t) → HeadReads tokens.entry.source.now tokens.entry.table.now tokens.entry.count c (head (checks_of jets.now) (token_of tokens.entry.source.now t ∷ tokens_left tokens.entry.source.now tokens.entry.table.now tokens.entry.count c.token.0)) result }
+{
     let span = t.span;
     let at = span.start;
-    let k = kind.0;
-    match k {
-        TokenKind::QUESTION => hole_head(source, tokens, count, c),
-        TokenKind::CONST => word_head(parse_literal(source, tokens, count, c)),
-        TokenKind::FAIL => fail_head(at, parse_literal(source, tokens, count, c)),
-        TokenKind::JET => jet_head(source, jets, span, c),
-        TokenKind::SYMBOL => ExprHead::Whole(ExprInner::Reference(span), at, c),
-        TokenKind::UNDERSCORE => ExprHead::Whole(ExprInner::Reference(span), at, c),
-        TokenKind::L_PAREN => ExprHead::Parens(c),
-        TokenKind::ASSERT_L => ExprHead::Two(TwoParts::AssertL, at, c),
-        TokenKind::ASSERT_R => ExprHead::Two(TwoParts::AssertR, at, c),
-        _ => keyword_head(keyword_of(k), at, c),
+    match t.kind {
+        TokenKind::QUESTION => hole_head(tokens, c),
+        TokenKind::CONST => word_head(parse_literal(tokens, c)),
+        TokenKind::FAIL => fail_head(at, parse_literal(tokens, c)),
+        TokenKind::JET => jet_head(tokens.source, jets, span, c),
+        TokenKind::SYMBOL => Ok((ExprHead::Whole(ExprInner::Reference(span), at), c)),
+        TokenKind::UNDERSCORE => Ok((ExprHead::Whole(ExprInner::Reference(span), at), c)),
+        TokenKind::L_PAREN => Ok((ExprHead::Parens, c)),
+        TokenKind::ASSERT_L => Ok((ExprHead::Two(TwoParts::AssertL, at), c)),
+        TokenKind::ASSERT_R => Ok((ExprHead::Two(TwoParts::AssertR, at), c)),
+        kind => keyword_head(keyword_of(kind), at, c),
     }
 }
 
 // What begins at the cursor.
-pub fn expr_head(source: &[u8], jets: &[u8], tokens: &[u32], count: u32, c: Cursor) -> ExprHead
-    requires { length source.now ≤ source_limit }
-    ensures { Ready count c → HeadReads source.now tokens.now count c (head (checks_of jets.now) (tokens_left source.now tokens.now count c.token.0)) result }
+pub fn expr_head(jets: &[u8], tokens: Tokens, c: Cursor) -> Answer<ExprHead>
+    requires { length tokens.source.now ≤ source_limit }
+    ensures { Ready tokens.entry.count c → HeadReads tokens.entry.source.now tokens.entry.table.now tokens.entry.count c (head (checks_of jets.now) (tokens_left tokens.entry.source.now tokens.entry.table.now tokens.entry.count c.token.0)) result }
 {
-    match cursor::peek(source, tokens, count, c) {
-        Ahead::Next(t, d) => head_of(source, jets, tokens, count, t, d),
-        Ahead::End => no_head(source, tokens, count, c),
+    match tokens.peek(c) {
+        Some((t, d)) => head_of(jets, tokens, t, d),
+        None => Err(tokens.refusal(c, Fault::ParseFailed)),
     }
 }

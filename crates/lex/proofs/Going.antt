@@ -97,21 +97,21 @@ pub record Ends (s old : List ℕ) (e : Result ℕ LexError) (out : List ℕ) : 
 
 -- what holds after a step
 abbrev pub Then : (s old : List ℕ) (at : ℕ) → Result (ℕ × ℕ) LexError → List ℕ → Type 0
-Then s old at (Ok (a, c)) out = Going s old a c out × (at < a) × (a ≤ length s)
+Then s old at (Ok p) out = Going s old p.0 p.1 out × (at < p.0) × (p.0 ≤ length s)
 Then s old at (Err e) out = Ends s old (Err e) out
 
 module _ (s old out : List ℕ) (at count : ℕ) (g : Going s old at count out) (h : at < length s) where
   some : 0 < length (drop at s)
   some = simp length-drop (omega arith)
 
-  refused : (e : Result ℕ LexError) → ((ts : List Token) → kept e ts ≡ []) → lex_from at 0 count (drop at s) ≡ ends e → Ends s old e out
+  refused : (e : LexError) → lex_from at 0 count (drop at s) ≡ ends (Err e) → Ends s old (Err e) out
   unfolding token_table
-  refused e k f =
-      let whole : lexing s ≡ behind_tokens g.tokens (ends e) = g.rest ∙ ap (behind_tokens g.tokens) f in
+  refused e f =
+      let whole : lexing s ≡ behind_tokens g.tokens (ends (Err e)) = g.rest ∙ ap (behind_tokens g.tokens) f in
       let few : length (rows_of g.tokens) ≤ record_limit = omega (arith, rows_length g.tokens, g.size, g.few) in
       record {
         answer = rw whole;
-        table = ap (table_of token_width []) g.is ∙ table_again token_width [] old (rows_wide g.tokens) few ∙ rw (whole, k);
+        table = ap (table_of token_width []) g.is ∙ table_again token_width [] old (rows_wide g.tokens) few ∙ rw whole;
       }
 
   taken : (k : TokenKind) (n : ℕ) → count < record_limit → lex_at (drop at s) ≡ OfKind k n → Then s old at (Ok ((at + n), (count + 1))) (written token_width out (count + 1) (token_row k at n))
@@ -141,10 +141,10 @@ module _ (s old out : List ℕ) (at count : ℕ) (g : Going s old at count out) 
     where
       full : (k : TokenKind) (n : ℕ) (b : Bool) → ltb count record_limit ≡ b → lex_at (drop at s) ≡ OfKind k n → Then s old at (if b then Ok ((at + n), (count + 1)) else (Err (TooManyTokens (record { 0 = at })))) (if b then written token_width out (count + 1) (token_row k at n) else out)
       full k n true f e = taken k n (ltb-true count record_limit f) e
-      full k n false f e = refused (Err (TooManyTokens (record { 0 = at }))) (λ ts. refl) (front_full at count (drop at s) some k n (ltb-false count record_limit f) e)
+      full k n false f e = refused (TooManyTokens (record { 0 = at })) (front_full at count (drop at s) some k n (ltb-false count record_limit f) e)
 
       go : (l : Lexed) → lex_at (drop at s) ≡ l → Then s old at (next_of l at count) (table_next l at count out)
-      go NoMatch e = refused (Err (NoToken (record { 0 = at }))) (λ ts. refl) (front_none at count (drop at s) some e)
+      go NoMatch e = refused (NoToken (record { 0 = at })) (front_none at count (drop at s) some e)
       go (Skip n) e =
           let fits = skip_fits s at h n e in
           let later : lex_from at 0 count (drop at s) ≡ lex_from (at + n) 0 count (drop (at + n) s) =
@@ -154,6 +154,10 @@ module _ (s old out : List ℕ) (at count : ℕ) (g : Going s old at count out) 
             fits.1,
           )
       go (OfKind k n) e = full k n (ltb count record_limit) refl e
+
+-- the same, by what the step answered
+pub stepped : (s old out new : List ℕ) (at count : ℕ) → Going s old at count out → at < length s → {q : Result (ℕ × ℕ) LexError} (r : Result (ℕ × ℕ) LexError) → q ≡ r → q ≡ next_of (lex_at (drop at s)) at count → new ≡ table_next (lex_at (drop at s)) at count out → Then s old at r new
+stepped s old out new at count g h r e f t = next_then s old out at count g h r new (sym e ∙ f) t
 
 -- the end of the text
 pub going_done : (s old out : List ℕ) (at count : ℕ) → Going s old at count out → length s ≤ at → (Ok count ≡ (lexing s).answer) × (out ≡ token_table (lexing s) old)

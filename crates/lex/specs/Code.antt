@@ -3,6 +3,7 @@
 use Rattle.std.specs.Prelude.{ℕ, ◌+◌, List, ltb, if◌then◌else◌, Err, Ok, Result}
 use Rattle.records.specs.Limits.{record_limit, token_width}
 use Rattle.records.specs.Records.{token_words}
+use Rattle.records.specs.declared.TokenRecord.{TokenRecord}
 use Rattle.records.specs.declared.kinds.TokenKind.{TokenKind}
 use Rattle.tables.specs.Tables.{written}
 use Rattle.matches.specs.declared.Lexed.{Lexed}
@@ -16,9 +17,12 @@ next_of NoMatch at count = Err (NoToken (record { 0 = at }))
 next_of (Skip n) at count = Ok ((at + n), count)
 next_of (OfKind k n) at count = if ltb count record_limit then Ok ((at + n), (count + 1)) else Err (TooManyTokens (record { 0 = at }))
 
--- the words of a token's record
+-- a token's record, and its words
+abbrev pub token_record : TokenKind → (at n : ℕ) → TokenRecord
+token_record k at n = record { kind = k; span = record { start = record { 0 = at }; len = n } }
+
 abbrev pub token_row : TokenKind → (at n : ℕ) → List ℕ
-token_row k at n = token_words (record { kind = k; span = record { start = record { 0 = at }; len = n } })
+token_row k at n = token_words (token_record k at n)
 
 -- the table then
 abbrev pub table_next : Lexed → (at count : ℕ) → List ℕ → List ℕ

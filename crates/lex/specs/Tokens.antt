@@ -3,7 +3,7 @@
 use Rattle.std.specs.Prelude.{ℕ, zero, suc, pred, ◌*◌, List, [], ◌∷◌, ◌++◌, map, length, take, ltb, if◌then◌else◌, Err, Ok, Result}
 use Rattle.records.specs.Limits.{source_limit, record_limit, token_width}
 use Rattle.records.specs.Records.{token_words}
-use Rattle.records.specs.Refusals.{short_table, long_source, not_utf8, no_token, too_many_tokens, row_of, row_by}
+use Rattle.records.specs.Refusals.{Refused, short_table, long_source, not_utf8, no_token, too_many_tokens, row_of, row_by}
 use Rattle.records.specs.declared.TokenRecord.{TokenRecord}
 use Rattle.records.specs.declared.kinds.TokenKind.{TokenKind}
 use Rattle.records.specs.declared.refusals.Refusal.{Refusal}
@@ -13,7 +13,6 @@ use Rattle.matches.specs.declared.Lexed.{Lexed}
 use Rattle.matches.specs.declared.Lexed.TheVariants.{Token as OfKind, Skip, NoMatch}
 use Rattle.matches.specs.Longest.{lex_at}
 use Rattle.text.specs.declared.TextError.{TextError}
-use Rattle.text.specs.declared.TextError.TheVariants.{BadAt}
 use Rattle.lex.specs.declared.LexError.{LexError}
 use Rattle.lex.specs.declared.LexError.TheVariants.{LongSource, NoToken, NotUtf8, ShortTable, TooManyTokens}
 
@@ -80,7 +79,7 @@ token_table l old = table_of token_width (rows_of (kept l.answer l.tokens)) old
 
 abbrev checked : (source : List ℕ) → Result (Unit {0}) TextError → Result ℕ LexError
 checked source (Ok _) = (lexing source).answer
-checked source (Err (BadAt at)) = Err (NotUtf8 (record { 0 = at }))
+checked source (Err at) = Err (NotUtf8 (record { 0 = at.at }))
 
 unfoldable pub lex_all : (source old : List ℕ) → Result ℕ LexError
 lex_all source old =
@@ -102,12 +101,16 @@ leaves (Err e) source old = left_by_error e old
 
 -- ---- its row, and the count
 
+-- the refusal that an error is
+abbrev pub refused_of_lex : LexError → Refused
+refused_of_lex ShortTable = short_table
+refused_of_lex LongSource = long_source
+refused_of_lex (NotUtf8 at) = not_utf8 at.0
+refused_of_lex (NoToken at) = no_token at.0
+refused_of_lex (TooManyTokens at) = too_many_tokens at.0
+
 abbrev pub row_of_lex_error : LexError → Refusal
-row_of_lex_error ShortTable = row_of short_table
-row_of_lex_error LongSource = row_of long_source
-row_of_lex_error (NotUtf8 at) = row_of (not_utf8 at.0)
-row_of_lex_error (NoToken at) = row_of (no_token at.0)
-row_of_lex_error (TooManyTokens at) = row_of (too_many_tokens at.0)
+row_of_lex_error e = row_of (refused_of_lex e)
 
 abbrev pub row_of_lex : Result ℕ LexError → Refusal
 row_of_lex a = row_by row_of_lex_error a

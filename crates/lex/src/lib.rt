@@ -7,7 +7,7 @@ ghost use Rattle.tables.specs.Tables.{table_of, written};
 ghost use Rattle.matches.specs.Longest.{lex_at};
 ghost use Rattle.records.specs.Refusals.{refusal_row as row_with};
 ghost use Rattle.lex.specs.Tokens.{lexing, token_table, lex_all, leaves, row_of_lex_error, count_of};
-ghost use Rattle.lex.specs.Code.{next_of, token_row, table_next};
+ghost use Rattle.lex.specs.Code.{next_of, token_record, table_next};
 
 use matches::Lexed;
 use records::kinds::TokenKind;
@@ -15,7 +15,6 @@ use records::limits::Limits;
 use records::numbers::ByteOffset;
 use records::refusals::{Cause, Refusal};
 use records::{Span, TokenRecord};
-use text::TextError;
 
 // Why a source has no tokens, in the order of the table of refusals: a table too short, a source too long, the first byte of
 // an ill-formed sequence, a byte where nothing matches, the start of a 1,025th token.
@@ -77,7 +76,7 @@ fn clear_tokens(tokens: &mut [u32])
 // The record of a token.
 fn token_record(kind: TokenKind, at: usize, n: usize) -> TokenRecord
     requires { (at ≤ source_limit) × (n ≤ source_limit) }
-    ensures { result ≡ token_row kind at n }
+    ensures { result ≡ token_record kind at n }
 {
     TokenRecord {
         kind,
@@ -147,9 +146,9 @@ pub fn lex_all(source: &[u8], tokens: &mut [u32]) -> Result<u32, LexError>
         return Err(LexError::LongSource);
     }
     match text::check_text(source) {
-        Err(TextError::BadAt(at)) => {
+        Err(error) => {
             clear_tokens(tokens);
-            Err(LexError::NotUtf8(ByteOffset(at as u32)))
+            Err(LexError::NotUtf8(ByteOffset(error.at as u32)))
         }
         Ok(()) => lex_text(source, tokens),
     }

@@ -5,81 +5,76 @@ use mathlib.Core.Path.{◌≡◌, sym, ap, ◌∙◌}
 use mathlib.Core.List.{List, ◌∷◌}
 use lib.Dec.{eqb}
 use lib.ListN.{length}
-use borrow.Author.Tests.{eq-eqb, ne_eqb}
 use Rattle.records.specs.TokenKind as token
 use Rattle.records.specs.declared.Span.{Span}
 use Rattle.records.specs.declared.TokenRecord.{TokenRecord}
 use Rattle.lex.specs.Tokens.{Token, record_of}
 use Rattle.checks.specs.declared.Fault.TheVariants.{ParseFailed}
 use Rattle.cursor.specs.declared.Cursor.{Cursor}
-use Rattle.cursor.specs.declared.Ahead.{Ahead}
-use Rattle.cursor.specs.declared.Ahead.TheVariants.{Next, End}
 use Rattle.cursor.specs.Tokens.{token_at, token_of_kind, tokens_left}
-use Rattle.cursor.specs.Cursor.{refusal_at, stepped, peeked}
+use Rattle.cursor.specs.Cursor.{refusal_at, stepped, peeked, Answer}
 use Rattle.cursor.proofs.Laws.{left_next}
 use Rattle.cursor.proofs.Reached.{some_left}
 use Rattle.cursor.proofs.Steps.{ahead_end, ahead_next}
 use Rattle.grammar.specs.Rule.{is_of}
 use Rattle.grammar.specs.Grammar.{names}
 use Rattle.grammar.specs.Part.{span_of}
-use Rattle.lines.specs.declared.LineHead.{LineHead}
-use Rattle.lines.specs.declared.LineHead.TheVariants.{Defined, Declared, Refused as NoLine}
 use Rattle.lines.specs.Answers.{tail_by, line_head_by}
+use Rattle.lines.specs.declared.LineHead.{LineHead}
+use Rattle.lines.specs.declared.LineHead.TheVariants.{Declared, Defined}
+use Rattle.std.specs.Prelude.{nat_eq, Err, None, Ok, Option, Some}
 
 -- ---- behind a name
 
-module _ (end : ℕ) (x : Span) (c : Cursor) (a : Ahead) (ts : List Token) (e : a ≡ peeked c ts) where
-  pub tail_end : (q : LineHead) → q ≡ NoLine (refusal_at end ParseFailed ts) → a ≡ End → q ≡ tail_by end x c ts
+module _ (end : ℕ) (x : Span) (c : Cursor) (a : Option (TokenRecord × Cursor)) (ts : List Token) (e : a ≡ peeked c ts) where
+  pub tail_end : (q : Answer LineHead) → q ≡ Err (refusal_at end ParseFailed ts) → a ≡ None → q ≡ tail_by end x c ts
   unfolding tail_by
   tail_end q w f = w ∙ rw (ahead_end c a ts e f)
 
-  module _ (r : TokenRecord) (d : Cursor) (f : a ≡ Next r d) where
+  module _ (r : TokenRecord) (d : Cursor) (f : a ≡ Some (r, d)) where
     ahead : (u : Token) × (rest : List Token) × (ts ≡ u ∷ rest) × (r ≡ record_of u) × (d ≡ stepped c)
     ahead = ahead_next c a ts r d e f
 
-    is : (k : ℕ) → r.kind.0 ≡ k → eqb ahead.0.kind.0 k ≡ true
-    is k h = eq-eqb ahead.0.kind.0 k (ap (λ (q : TokenRecord). q.kind.0) (sym ahead.3) ∙ h)
+    kind_test : (k : ℕ) {b : Bool} → nat_eq r.kind.0 k ≡ b → eqb ahead.0.kind.0 k ≡ b
+    kind_test k h = ap (λ (q : TokenRecord). eqb q.kind.0 k) (sym ahead.3) ∙ h
 
-    is_not : (k : ℕ) → ¬ (r.kind.0 ≡ k) → eqb ahead.0.kind.0 k ≡ false
-    is_not k h = ne_eqb ahead.0.kind.0 k (λ z. h (ap (λ (q : TokenRecord). q.kind.0) ahead.3 ∙ z))
-
-    pub tail_assign : r.kind.0 ≡ token.number token.assign → Defined x d ≡ tail_by end x c ts
+    pub tail_assign : nat_eq r.kind.0 (token.number token.assign) ≡ true → Ok (Defined x, d) ≡ tail_by end x c ts
     unfolding tail_by
     tail_assign h =
-        let one : tail_by end x c (ahead.0 ∷ ahead.1) ≡ Defined x (stepped c) = rw (is (token.number token.assign) h) in
-        ap (Defined x) ahead.4 ∙ sym one ∙ ap (tail_by end x c) (sym ahead.2)
+        let one : tail_by end x c (ahead.0 ∷ ahead.1) ≡ Ok (Defined x, (stepped c)) = rw (kind_test (token.number token.assign) h) in
+        ap (λ (d : Cursor). Ok (Defined x, d)) ahead.4 ∙ sym one ∙ ap (tail_by end x c) (sym ahead.2)
 
-    module _ (no : ¬ (r.kind.0 ≡ token.number token.assign)) where
-      pub tail_colon : r.kind.0 ≡ token.number token.colon → Declared x d ≡ tail_by end x c ts
+    module _ (no : nat_eq r.kind.0 (token.number token.assign) ≡ false) where
+      pub tail_colon : nat_eq r.kind.0 (token.number token.colon) ≡ true → Ok (Declared x, d) ≡ tail_by end x c ts
       unfolding tail_by
       tail_colon h =
-          let one : tail_by end x c (ahead.0 ∷ ahead.1) ≡ Declared x (stepped c) = rw (is_not (token.number token.assign) no, is (token.number token.colon) h) in
-          ap (Declared x) ahead.4 ∙ sym one ∙ ap (tail_by end x c) (sym ahead.2)
+          let one : tail_by end x c (ahead.0 ∷ ahead.1) ≡ Ok (Declared x, (stepped c)) = rw (kind_test (token.number token.assign) no, kind_test (token.number token.colon) h) in
+          ap (λ (d : Cursor). Ok (Declared x, d)) ahead.4 ∙ sym one ∙ ap (tail_by end x c) (sym ahead.2)
 
-      pub tail_other : (q : LineHead) → q ≡ NoLine (refusal_at end ParseFailed ts) → ¬ (r.kind.0 ≡ token.number token.colon) → q ≡ tail_by end x c ts
+      pub tail_other : (q : Answer LineHead) → q ≡ Err (refusal_at end ParseFailed ts) → nat_eq r.kind.0 (token.number token.colon) ≡ false → q ≡ tail_by end x c ts
       unfolding tail_by
       tail_other q w h =
-          let one : tail_by end x c (ahead.0 ∷ ahead.1) ≡ NoLine (refusal_at end ParseFailed (ahead.0 ∷ ahead.1)) = rw (is_not (token.number token.assign) no, is_not (token.number token.colon) h) in
-          w ∙ ap (λ (us : List Token). NoLine (refusal_at end ParseFailed us)) ahead.2 ∙ sym one ∙ ap (tail_by end x c) (sym ahead.2)
+          let one : tail_by end x c (ahead.0 ∷ ahead.1) ≡ Err (refusal_at end ParseFailed (ahead.0 ∷ ahead.1)) = rw (kind_test (token.number token.assign) no, kind_test (token.number token.colon) h) in
+          w ∙ ap (λ (us : List Token). Err (refusal_at end ParseFailed us)) ahead.2 ∙ sym one ∙ ap (tail_by end x c) (sym ahead.2)
 
 -- ---- at a line's beginning
 
-module _ (s t : List ℕ) (n : ℕ) (c : Cursor) (a : Ahead) (e : a ≡ peeked c (tokens_left s t n c.token.0)) where
+module _ (s t : List ℕ) (n : ℕ) (c : Cursor) (a : Option (TokenRecord × Cursor)) (e : a ≡ peeked c (tokens_left s t n c.token.0)) where
   abbrev ts : List Token
   ts = tokens_left s t n c.token.0
 
-  pub head_end : (q : LineHead) → q ≡ NoLine (refusal_at (length s) ParseFailed ts) → a ≡ End → q ≡ line_head_by (length s) c ts
+  pub head_end : (q : Answer LineHead) → q ≡ Err (refusal_at (length s) ParseFailed ts) → a ≡ None → q ≡ line_head_by (length s) c ts
   unfolding line_head_by
   head_end q w f = w ∙ rw (ahead_end c a ts e f)
 
-  module _ (r : TokenRecord) (d : Cursor) (b : Bool) (f : a ≡ Next r d) (named : b ≡ is_of (token_of_kind r.kind) names) where
+  module _ (r : TokenRecord) (d : Cursor) (b : Bool) (f : a ≡ Some (r, d)) (named : b ≡ is_of (token_of_kind r.kind) names) where
     first : (u : Token) × (rest : List Token) × (ts ≡ u ∷ rest) × (r ≡ record_of u) × (d ≡ stepped c)
     first = ahead_next c a ts r d e f
 
     says : is_of first.0 names ≡ b
     says = sym (named ∙ ap (λ (q : TokenRecord). is_of (token_of_kind q.kind) names) first.3)
 
-    pub head_name : (h : LineHead) → b ≡ true → h ≡ tail_by (length s) r.span d (tokens_left s t n d.token.0) → h ≡ line_head_by (length s) c ts
+    pub head_name : (h : Answer LineHead) → b ≡ true → h ≡ tail_by (length s) r.span d (tokens_left s t n d.token.0) → h ≡ line_head_by (length s) c ts
     unfolding line_head_by
     head_name h eb eh =
         let below = some_left s t n c.token.0 first.0 first.1 first.2 in
@@ -90,8 +85,8 @@ module _ (s t : List ℕ) (n : ℕ) (c : Cursor) (a : Ahead) (e : a ≡ peeked c
         ∙ ap (λ (q : TokenRecord). tail_by (length s) q.span (stepped c) (tokens_left s t n (c.token.0 + 1))) first.3
         ∙ ap (tail_by (length s) (span_of first.0) (stepped c)) left ∙ sym one ∙ ap (line_head_by (length s) c) (sym first.2)
 
-    pub head_other : (q : LineHead) → q ≡ NoLine (refusal_at (length s) ParseFailed ts) → b ≡ false → q ≡ line_head_by (length s) c ts
+    pub head_other : (q : Answer LineHead) → q ≡ Err (refusal_at (length s) ParseFailed ts) → b ≡ false → q ≡ line_head_by (length s) c ts
     unfolding line_head_by
     head_other q w eb =
-        let one : line_head_by (length s) c (first.0 ∷ first.1) ≡ NoLine (refusal_at (length s) ParseFailed (first.0 ∷ first.1)) = rw (says ∙ eb) in
-        w ∙ ap (λ (us : List Token). NoLine (refusal_at (length s) ParseFailed us)) first.2 ∙ sym one ∙ ap (line_head_by (length s) c) (sym first.2)
+        let one : line_head_by (length s) c (first.0 ∷ first.1) ≡ Err (refusal_at (length s) ParseFailed (first.0 ∷ first.1)) = rw (says ∙ eb) in
+        w ∙ ap (λ (us : List Token). Err (refusal_at (length s) ParseFailed us)) first.2 ∙ sym one ∙ ap (line_head_by (length s) c) (sym first.2)

@@ -45,9 +45,7 @@ use Rattle.reader.specs.Reading.{contents, Reading, read, refused, by_lines, by_
 use Rattle.reader.proofs.Fits.{resolved_fit}
 use Rattle.listing.specs.Listing.{listing}
 use Rattle.text.specs.declared.TextError.{TextError}
-use Rattle.text.specs.declared.TextError.TheVariants.{BadAt}
 use Rattle.lex.specs.declared.LexError.{LexError}
-use Rattle.lex.specs.declared.LexError.TheVariants.{NoToken, TooManyTokens}
 
 -- ---- records are of names and nodes, one for each in their order
 
@@ -177,12 +175,11 @@ module _ (source jets : List ℕ) where
 
     tokens_within : (a : Result ℕ LexError) → (lexing source).answer ≡ a → Within source (by_tokens source jets a)
     tokens_within (Ok n) e = lines_within n e (parsing source jets) refl
-    tokens_within (Err (NoToken at)) e = tt
-    tokens_within (Err (TooManyTokens at)) e = tt
+    tokens_within (Err x) e = tt
 
     text_within : (a : Result (Unit {0}) TextError) → Within source (by_text source jets a)
     text_within (Ok _) = tokens_within (lexing source).answer refl
-    text_within (Err (BadAt at)) = tt
+    text_within (Err x) = tt
 
   -- a source over the limit is refused
   reading_within : Within source (reading source jets)

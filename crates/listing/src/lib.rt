@@ -7,12 +7,13 @@ ghost use Rattle.reader.specs.Reading.{eight, read_into, read_tables};
 ghost use Rattle.listing.specs.Listing.{listing, list_answer, listed_in};
 ghost use Rattle.listing.specs.Steps.{text_of};
 
-use ends::{ListAnswer, ReadAnswer};
+use ends::{ParseError, ReadCounts};
+use records::refusals::Cause;
 
 // Writes what is listed for an answer and its tables, from the output's start on, as far as there is room; answers how long it is.
 fn list_answer(
     source: &[u8],
-    answer: ReadAnswer,
+    answer: Result<ReadCounts, ParseError>,
     names: &[u32],
     nodes: &[u32],
     errors: &[u32],
@@ -22,7 +23,7 @@ fn list_answer(
     ensures { Puts (text_of source.now answer names.now nodes.now errors.now) out.old 0 out.new result }
 {
     match answer {
-        ReadAnswer::Read(counts) => rows::list_tables(
+        Ok(counts) => rows::list_tables(
             source,
             names,
             counts.names,
@@ -32,14 +33,14 @@ fn list_answer(
             counts.errors,
             out,
         ),
-        ReadAnswer::Refused(_) => rows::list_refusal(source, answer.row(), out),
+        Err(error) => rows::list_refusal(source, error.row(), out),
     }
 }
 
 // How long it is.
 fn list_length(
     source: &[u8],
-    answer: ReadAnswer,
+    answer: Result<ReadCounts, ParseError>,
     names: &[u32],
     nodes: &[u32],
     errors: &[u32],
@@ -54,7 +55,7 @@ fn list_length(
 // Whether so many bytes have room for it; as many as no listing passes always have.
 fn has_room(
     source: &[u8],
-    answer: ReadAnswer,
+    answer: Result<ReadCounts, ParseError>,
     names: &[u32],
     nodes: &[u32],
     errors: &[u32],
@@ -72,20 +73,20 @@ fn has_room(
 // Writes it, if there is room for all of it.
 fn list_read(
     source: &[u8],
-    answer: ReadAnswer,
+    answer: Result<ReadCounts, ParseError>,
     names: &[u32],
     nodes: &[u32],
     errors: &[u32],
     out: &mut [u8],
-) -> ListAnswer
+) -> Option<usize>
     requires { length (text_of source.now answer names.now nodes.now errors.now) ≤ listing_limit }
     ensures answer { result ≡ list_answer (text_of source.now answer names.now nodes.now errors.now) (length out.old) }
     ensures output { out.new ≡ listed_in (text_of source.now answer names.now nodes.now errors.now) out.old }
 {
     if has_room(source, answer, names, nodes, errors, out.len()) {
-        return ListAnswer::Listed(list_answer(source, answer, names, nodes, errors, out));
+        return Some(list_answer(source, answer, names, nodes, errors, out));
     }
-    ListAnswer::NoRoom
+    None
 }
 
 // Reads a source into eight lent tables and writes its listing into a lent output, for any bytes, any jet list, any tables and any
@@ -102,7 +103,7 @@ pub fn list(
     errors: &mut [u32],
     work: &mut [u32],
     out: &mut [u8],
-) -> ListAnswer
+) -> Option<usize>
     ensures answer { result ≡ list_answer (listing source.now (read_into source.now jets.now (eight tokens.old lines.old exprs.old types.old names.old nodes.old errors.old work.old))) (length out.old) }
     ensures output { out.new ≡ listed_in (listing source.now (read_into source.now jets.now (eight tokens.old lines.old exprs.old types.old names.old nodes.old errors.old work.old))) out.old }
     ensures tables { eight tokens.new lines.new exprs.new types.new names.new nodes.new errors.new work.new ≡ read_tables (read_into source.now jets.now (eight tokens.old lines.old exprs.old types.old names.old nodes.old errors.old work.old)) (eight tokens.old lines.old exprs.old types.old names.old nodes.old errors.old work.old) }

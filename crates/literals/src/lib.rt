@@ -37,10 +37,10 @@ pub fn bit_length(kind: TokenKind, len: u32) -> u32
     requires { len ≤ source_limit }
     ensures { result ≡ bit_length kind len }
 {
-    if kind.0 == TokenKind::BIN_LITERAL {
+    if kind == TokenKind::BIN_LITERAL {
         return len.saturating_sub(PREFIX);
     }
-    if kind.0 == TokenKind::HEX_LITERAL {
+    if kind == TokenKind::HEX_LITERAL {
         return BITS_PER_HEX * len.saturating_sub(PREFIX);
     }
     0

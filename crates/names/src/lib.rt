@@ -3,14 +3,12 @@
 
 ghost use Rattle.std.specs.Prelude.{◌≡◌, List, ◌*◌, ◌≤◌, length};
 ghost use Rattle.records.specs.Limits.{record_limit, name_width, error_width};
-ghost use Rattle.records.specs.Records.{name_words, error_words};
-ghost use Rattle.tables.specs.Tables.{written};
 ghost use Rattle.grammar.specs.Tree.{Line};
 ghost use Rattle.names.specs.Held.{HeldLines, Entered};
 ghost use Rattle.names.specs.Code.{known_entry, legal_entry, name_entry, line_entry, Enters};
 
 use records::kinds::ErrorKind;
-use records::numbers::{ByteOffset, ErrorNo, ExprNo, LineNo, NameNo, NodeNo};
+use records::numbers::{ByteOffset, ExprNo, LineNo, NameNo, NodeNo};
 use records::{ErrorRecord, ExprRecord, LineRecord, NameRecord, Span};
 
 // How many names and errors there are.
@@ -48,7 +46,7 @@ fn known_entry(exprs: &[u32], names: &[u32], known: NameNo, name: Span, expr: Ex
     }
     let start = tables::word(exprs, ExprRecord::WORDS, expr.0, ExprRecord::START);
     Entry::Wrong(ErrorRecord {
-        kind: ErrorKind(ErrorKind::REPEATED),
+        kind: ErrorKind::REPEATED,
         start: ByteOffset(start),
         name,
     })
@@ -82,7 +80,7 @@ fn name_entry(
     let text = cursor::span_text(source, name);
     if symbols::is_illegal(text) {
         return Entry::Wrong(ErrorRecord {
-            kind: ErrorKind(ErrorKind::ILLEGAL),
+            kind: ErrorKind::ILLEGAL,
             start: name.start,
             name,
         });
@@ -116,22 +114,6 @@ fn line_entry(
     name_entry(source, exprs, names, count, name, ExprNo(expr))
 }
 
-// Writes the record of a name.
-fn put_name(names: &mut [u32], number: NameNo, name: NameRecord)
-    ensures { names.new ≡ written name_width names.old number.0 (name_words name) }
-{
-    let words = name.words();
-    tables::write(names, NameRecord::WORDS, number.0, &words);
-}
-
-// Writes the record of an error.
-fn put_error(errors: &mut [u32], number: ErrorNo, error: ErrorRecord)
-    ensures { errors.new ≡ written error_width errors.old number.0 (error_words error) }
-{
-    let words = error.words();
-    tables::write(errors, ErrorRecord::WORDS, number.0, &words);
-}
-
 // Enters the line of this number: its name, or an error. The answer is how many there are then.
 fn enter_line(
     source: &[u8],
@@ -147,19 +129,19 @@ fn enter_line(
     match line_entry(source, lines, number, exprs, names, counts.names) {
         Entry::New(name) => {
             let made = cursor::next_number(counts.names);
-            put_name(names, NameNo(made), name);
+            tables::write_record(names, made, name);
             NameCounts {
                 names: made,
                 ..counts
             }
         }
         Entry::Known(known, name) => {
-            put_name(names, known, name);
+            tables::write_record(names, known.0, name);
             counts
         }
         Entry::Wrong(error) => {
             let made = cursor::next_number(counts.errors);
-            put_error(errors, ErrorNo(made), error);
+            tables::write_record(errors, made, error);
             NameCounts {
                 errors: made,
                 ..counts

@@ -25,11 +25,9 @@ use Rattle.walk.specs.Walk.{Node, Status}
 use Rattle.walk.specs.Nodes.{walked, nodes_of, node_records_from, node_records, node_rows, name_records_from, name_records, named_rows}
 use Rattle.errors.specs.Errors.{all_errors}
 use Rattle.ends.specs.Rows.{row_of_read, counts_of_read}
-use Rattle.reader.specs.Reading.{contents, Reading, read, refused, nothing, by_tokens, reading, Tables, eight, short_to_read_by, read_into, holding, after_refusal, row_of_reading, counts_of_contents, counts_of_reading, faulty, refusal_answer, answer_of}
+use Rattle.reader.specs.Reading.{contents, Reading, read, refused, nothing, by_tokens, reading, Tables, eight, short_to_read_by, read_into, holding, after_refusal, row_of_reading, counts_of_contents, counts_of_reading, faulty, refusal_error, answer_of}
 use Rattle.text.specs.declared.TextError.{TextError}
-use Rattle.text.specs.declared.TextError.TheVariants.{BadAt}
-use Rattle.lex.specs.declared.LexError.{LexError}
-use Rattle.lex.specs.declared.LexError.TheVariants.{LongSource, NotUtf8, ShortTable}
+use Rattle.lex.specs.declared.LexError.TheVariants.{ShortTable}
 
 -- ---- an answer says the row and the counts of its reading
 
@@ -58,7 +56,7 @@ counts_are (refused r) = refl
 
 -- ---- faults
 
-pub fault_answer : (at : ℕ) (x : Fault) → refusal_answer (refused_at at x) ≡ faulty at x
+pub fault_answer : (at : ℕ) (x : Fault) → refusal_error (refused_at at x) ≡ faulty at x
 fault_answer at ParseFailed = refl
 fault_answer at (BadWordLength n) = refl
 fault_answer at (EntropyInsufficient n) = refl
@@ -80,31 +78,25 @@ fault_left at TooDeep old = refl
 
 -- ---- by the lexer's answer
 
-abbrev pub reading_by : (source jets : List ℕ) → Result ℕ LexError → Reading
-reading_by source jets (Err ShortTable) = refused refusal.short_table
-reading_by source jets (Err LongSource) = refused refusal.long_source
-reading_by source jets (Err (NotUtf8 at)) = refused (refusal.not_utf8 at.0)
-reading_by source jets (e) = by_tokens source jets e
-
 -- a table of tokens that has room
-lexer_reading : (source jets ts : List ℕ) → record_limit * token_width ≤ length ts → reading_by source jets (lex_all source ts) ≡ reading source jets
+lexer_reading : (source jets ts : List ℕ) → record_limit * token_width ≤ length ts → by_tokens source jets (lex_all source ts) ≡ reading source jets
 unfolding lex_all reading
 lexer_reading source jets ts room = go (ltb source_limit (length source)) refl (check_text source) refl
   where
     roomy : ltb (length ts) (record_limit * token_width) ≡ false
     roomy = le-ltb (length ts) (record_limit * token_width) room
 
-    go : (b : Bool) → ltb source_limit (length source) ≡ b → (t : Result (Unit {0}) TextError) → check_text source ≡ t → reading_by source jets (lex_all source ts) ≡ reading source jets
+    go : (b : Bool) → ltb source_limit (length source) ≡ b → (t : Result (Unit {0}) TextError) → check_text source ≡ t → by_tokens source jets (lex_all source ts) ≡ reading source jets
     go true h t k = rw (roomy, h)
     go false h (Ok _) k = rw (roomy, h, k)
-    go false h (Err (BadAt at)) k = rw (roomy, h, k)
+    go false h (Err at) k = rw (roomy, h, k)
 
 pub by_lexer : (source jets ts ls es ty ns xs rs ws : List ℕ) → short_to_read_by (length ns) (length xs) (length rs) (length ws) ≡ false
-    → read_into source jets (eight ts ls es ty ns xs rs ws) ≡ reading_by source jets (ast.lex_answer source (ast.tables ts ls es ty))
+    → read_into source jets (eight ts ls es ty ns xs rs ws) ≡ by_tokens source jets (ast.lex_answer source (ast.tables ts ls es ty))
 unfolding read_into
 by_lexer source jets ts ls es ty ns xs rs ws room = rw room (go (ast.short_to_parse (ast.tables ts ls es ty)) refl)
   where
-    go : (b : Bool) → ast.short_to_parse (ast.tables ts ls es ty) ≡ b → (if b then refused refusal.short_table else reading source jets) ≡ reading_by source jets (if b then Err ShortTable else lex_all source ts)
+    go : (b : Bool) → ast.short_to_parse (ast.tables ts ls es ty) ≡ b → (if b then refused refusal.short_table else reading source jets) ≡ by_tokens source jets (if b then Err ShortTable else lex_all source ts)
     go true e = refl
     go false e = sym (lexer_reading source jets ts (has_room (length ts) (length ls) (length es) (length ty) e).0)
 

@@ -14,7 +14,7 @@ use Rattle.records.specs.declared.NodeRecord.{NodeRecord}
 use Rattle.records.specs.declared.ErrorRecord.{ErrorRecord}
 use Rattle.tables.specs.Tables.{table_of}
 use Rattle.text.specs.Check.{check_text}
-use Rattle.lex.specs.Tokens.{Token, record_of, lexing}
+use Rattle.lex.specs.Tokens.{Token, record_of, lexing, refused_of_lex}
 use Rattle.checks.specs.Checks.{refused_at}
 use Rattle.checks.specs.declared.Fault.{Fault}
 use Rattle.checks.specs.declared.Fault.TheVariants.{ParseFailed, BadWordLength, EntropyInsufficient, EntropyTooMuch, UnknownJet, Bad2ExpNumber, NumberOutOfRange, TooDeep}
@@ -24,19 +24,15 @@ use Rattle.grammar.specs.Rule.{Parsed, got, stop}
 use Rattle.grammar.specs.Recorded.{line_records, lines_exprs, lines_types}
 use Rattle.ast.specs.Parsing as ast
 use Rattle.ast.specs.Parsing.{tables, parsing}
-use Rattle.ends.specs.declared.ParseAnswer.{ParseAnswer}
-use Rattle.ends.specs.declared.ParseAnswer.TheVariants.{NotLexed, Parsed as WasParsed}
-use Rattle.ends.specs.declared.ParseEnd.TheVariants.{Refused as NotParsed}
 use Rattle.names.specs.Names.{error_record}
 use Rattle.walk.specs.Nodes.{nodes_of, node_records, name_records}
 use Rattle.errors.specs.Errors.{all_errors}
 use Rattle.ends.specs.declared.ReadCounts.{ReadCounts}
-use Rattle.ends.specs.declared.ReadAnswer.{ReadAnswer}
-use Rattle.ends.specs.declared.ReadAnswer.TheVariants.{Read, Refused as NotRead}
 use Rattle.text.specs.declared.TextError.{TextError}
-use Rattle.text.specs.declared.TextError.TheVariants.{BadAt}
 use Rattle.lex.specs.declared.LexError.{LexError}
 use Rattle.lex.specs.declared.LexError.TheVariants.{LongSource, NoToken, NotUtf8, ShortTable, TooManyTokens}
+use Rattle.ends.specs.declared.ParseError.{ParseError}
+use Rattle.ends.specs.declared.ParseError.TheVariants.{NotLexed, Refused as NotParsed}
 
 -- ---- the reading
 
@@ -79,13 +75,12 @@ by_lines source ts (stop x rest) = refused (refused_at (place_of_left (length so
 -- 4 and 5, whichever is met first from the left; 6 to 13 only when the whole source has lexed
 abbrev pub by_tokens : (source jets : List ℕ) → Result ℕ LexError → Reading
 by_tokens source jets (Ok n) = by_lines source (lexing source).tokens (parsing source jets)
-by_tokens source jets (Err (NoToken at)) = refused (refusal.no_token at.0)
-by_tokens source jets (Err (TooManyTokens at)) = refused (refusal.too_many_tokens at.0)
+by_tokens source jets (Err e) = refused (refused_of_lex e)
 
 -- 3: not UTF-8
 abbrev pub by_text : (source jets : List ℕ) → Result (Unit {0}) TextError → Reading
 by_text source jets (Ok _) = by_tokens source jets (lexing source).answer
-by_text source jets (Err (BadAt at)) = refused (refusal.not_utf8 at)
+by_text source jets (Err e) = refused (refusal.not_utf8 e.at)
 
 -- the reading of a source; 2 first: a source over 32,768 bytes
 unfoldable pub reading : (source jets : List ℕ) → Reading
@@ -179,24 +174,24 @@ counts_of_reading (refused r) = counts_of_contents nothing
 
 -- ---- as the code answers: each layer's refusals in that layer's enum
 
-abbrev pub faulty : (at : ℕ) → Fault → ParseAnswer
-faulty at x = WasParsed (NotParsed (record { fault = x; at = record { 0 = at } }))
+abbrev pub faulty : (at : ℕ) → Fault → ParseError
+faulty at x = NotParsed (record { fault = x; at = record { 0 = at } })
 
-abbrev pub refusal_answer : Refused → ParseAnswer
-refusal_answer refusal.short_table = NotLexed (Err ShortTable)
-refusal_answer refusal.long_source = NotLexed (Err LongSource)
-refusal_answer (refusal.not_utf8 at) = NotLexed (Err (NotUtf8 (record { 0 = at })))
-refusal_answer (refusal.no_token at) = NotLexed (Err (NoToken (record { 0 = at })))
-refusal_answer (refusal.too_many_tokens at) = NotLexed (Err (TooManyTokens (record { 0 = at })))
-refusal_answer (refusal.parse_failed at) = faulty at ParseFailed
-refusal_answer (refusal.bad_word_length at n) = faulty at (BadWordLength n)
-refusal_answer (refusal.short_fail at n) = faulty at (EntropyInsufficient n)
-refusal_answer (refusal.long_fail at n) = faulty at (EntropyTooMuch n)
-refusal_answer (refusal.unknown_jet at) = faulty at UnknownJet
-refusal_answer (refusal.bad_power at n) = faulty at (Bad2ExpNumber n)
-refusal_answer (refusal.big_exponent at) = faulty at NumberOutOfRange
-refusal_answer (refusal.too_deep at) = faulty at TooDeep
+abbrev pub refusal_error : Refused → ParseError
+refusal_error refusal.short_table = NotLexed ShortTable
+refusal_error refusal.long_source = NotLexed LongSource
+refusal_error (refusal.not_utf8 at) = NotLexed (NotUtf8 (record { 0 = at }))
+refusal_error (refusal.no_token at) = NotLexed (NoToken (record { 0 = at }))
+refusal_error (refusal.too_many_tokens at) = NotLexed (TooManyTokens (record { 0 = at }))
+refusal_error (refusal.parse_failed at) = faulty at ParseFailed
+refusal_error (refusal.bad_word_length at n) = faulty at (BadWordLength n)
+refusal_error (refusal.short_fail at n) = faulty at (EntropyInsufficient n)
+refusal_error (refusal.long_fail at n) = faulty at (EntropyTooMuch n)
+refusal_error (refusal.unknown_jet at) = faulty at UnknownJet
+refusal_error (refusal.bad_power at n) = faulty at (Bad2ExpNumber n)
+refusal_error (refusal.big_exponent at) = faulty at NumberOutOfRange
+refusal_error (refusal.too_deep at) = faulty at TooDeep
 
-abbrev pub answer_of : Reading → ReadAnswer
-answer_of (read c) = Read (counts_of_contents c)
-answer_of (refused r) = NotRead (refusal_answer r)
+abbrev pub answer_of : Reading → Result ReadCounts ParseError
+answer_of (read c) = Ok (counts_of_contents c)
+answer_of (refused r) = Err (refusal_error r)

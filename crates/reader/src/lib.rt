@@ -7,20 +7,12 @@ ghost use Rattle.tables.specs.Tables.{table_of};
 ghost use Rattle.grammar.specs.Tree.{Line};
 ghost use Rattle.names.specs.Held.{HeldLines};
 ghost use Rattle.reader.specs.Reading.{eight, short_to_read_by, read_into, read_tables, answer_of};
-ghost use Rattle.reader.specs.Steps.{next_by, Resolves};
+ghost use Rattle.reader.specs.Steps.{changes_no_word, Resolves};
 
-use ends::{Counts, ParseAnswer, ParseEnd, ReadAnswer, ReadCounts};
-use lex::LexAnswer;
+use ends::{Counts, ParseError, ReadCounts};
+use lex::LexError;
 use records::limits::Limits;
 use records::{ErrorRecord, NameRecord, NodeRecord, WorkRecord};
-
-// What parsing leaves to be done: nothing, since no word was changed; to set the other tables to zero; to resolve the lines.
-#[derive(Clone, Copy)]
-enum AfterParse {
-    Untouched,
-    Cleared,
-    Parsed(Counts),
-}
 
 // Words of a table of names, nodes, errors and work.
 const NAME_TABLE: usize = Limits::RECORDS as usize * NameRecord::WORDS as usize;
@@ -52,21 +44,13 @@ fn clear_resolved(names: &mut [u32], nodes: &mut [u32], errors: &mut [u32], work
     tables::clear(work, WorkRecord::WORDS);
 }
 
-// What is left to do after parsing.
-fn after_parse(answer: ParseAnswer) -> AfterParse
-    ensures { result ≡ next_by answer }
+// Whether an error changes no word: refusal 1 alone.
+fn changes_no_word(error: ParseError) -> bool
+    ensures { result ≡ changes_no_word error }
 {
-    match answer {
-        ParseAnswer::NotLexed(lexed) => match lexed {
-            LexAnswer::ShortTable => AfterParse::Untouched,
-            LexAnswer::LongSource => AfterParse::Cleared,
-            LexAnswer::NotUtf8(_) => AfterParse::Cleared,
-            LexAnswer::Ended(_) => AfterParse::Cleared,
-        },
-        ParseAnswer::Parsed(end) => match end {
-            ParseEnd::Lines(counts) => AfterParse::Parsed(counts),
-            ParseEnd::Refused(_) => AfterParse::Cleared,
-        },
+    match error {
+        ParseError::NotLexed(lexed) => matches!(lexed, LexError::ShortTable),
+        ParseError::Refused(_) => false,
     }
 }
 
@@ -108,22 +92,19 @@ pub fn read(
     nodes: &mut [u32],
     errors: &mut [u32],
     work: &mut [u32],
-) -> ReadAnswer
+) -> Result<ReadCounts, ParseError>
     ensures answer { result ≡ answer_of (read_into source.now jets.now (eight tokens.old lines.old exprs.old types.old names.old nodes.old errors.old work.old)) }
     ensures tables { eight tokens.new lines.new exprs.new types.new names.new nodes.new errors.new work.new ≡ read_tables (read_into source.now jets.now (eight tokens.old lines.old exprs.old types.old names.old nodes.old errors.old work.old)) (eight tokens.old lines.old exprs.old types.old names.old nodes.old errors.old work.old) }
 {
     if is_short(names.len(), nodes.len(), errors.len(), work.len()) {
-        return ReadAnswer::Refused(ParseAnswer::NotLexed(LexAnswer::ShortTable));
+        return Err(ParseError::NotLexed(LexError::ShortTable));
     }
-    let answer = ast::parse_line_vector(source, jets, tokens, lines, exprs, types);
-    match after_parse(answer) {
-        AfterParse::Untouched => ReadAnswer::Refused(answer),
-        AfterParse::Cleared => {
+    match ast::parse_line_vector(source, jets, tokens, lines, exprs, types) {
+        Ok(parsed) => Ok(resolve_lines(source, lines, exprs, parsed, names, nodes, errors, work)),
+        Err(error) if changes_no_word(error) => Err(error),
+        Err(error) => {
             clear_resolved(names, nodes, errors, work);
-            ReadAnswer::Refused(answer)
+            Err(error)
         }
-        AfterParse::Parsed(parsed) => ReadAnswer::Read(resolve_lines(
-            source, lines, exprs, parsed, names, nodes, errors, work,
-        )),
     }
 }

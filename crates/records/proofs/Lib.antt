@@ -1,3 +1,4 @@
 pub mod Choices
 pub mod Determined
 pub mod Widths
+pub mod Pairs

@@ -29,7 +29,7 @@ use Rattle.lex.proofs.Going.{front_none, front_skip, front_full, front_token}
 use Rattle.lex.proofs.Tiling.{tiling, tiles_lexed, tokens_few}
 use Rattle.refusals.specs.Cuts.{Cut, end, skip, token, CutUpTo, NothingMatches, TokenTooMany}
 use Rattle.lex.specs.declared.LexError.{LexError}
-use Rattle.lex.specs.declared.LexError.TheVariants.{NoToken, TooManyTokens}
+use Rattle.lex.specs.declared.LexError.TheVariants.{ShortTable, LongSource, NotUtf8, NoToken, TooManyTokens}
 use Rattle.std.specs.Prelude.{Err, Ok, Result}
 
 -- ---- no match: no row has a front
@@ -50,6 +50,9 @@ unmatched_rows s = (λ e. lacks (rw e at (lexed s)), λ f. lexes_once rows s (le
 -- why the lexing ends: so many tokens stand before the offset p, and `rest` stands there
 abbrev Why : Result ℕ LexError → (count p : ℕ) → (rest : List ℕ) → Type 0
 Why (Ok n) count p rest = rest ≡ []
+Why (Err ShortTable) count p rest = ⊥
+Why (Err LongSource) count p rest = ⊥
+Why (Err (NotUtf8 q)) count p rest = ⊥
 Why (Err (NoToken q)) count p rest = (p ≡ q.0) × (0 < length rest) × (lex_at rest ≡ NoMatch)
 Why (Err (TooManyTokens q)) count p rest = (p ≡ q.0) × (count ≡ record_limit) × ((k : TokenKind) × (n : ℕ) × (lex_at rest ≡ OfKind k n))
 

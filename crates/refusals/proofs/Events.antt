@@ -138,11 +138,11 @@ module _ (jets : List ℕ) (front : List Token) where
   unfolding fail_verdict
   fail_event l left x b o = short (ltb (bits_in l) 128) refl
     where
-      long : (p : Bool) → ltb 512 (bits_in l) ≡ p → (if p then Err (EntropyTooMuch (bits_in l)) else Ok tt) ≡ Err x → Event jets front (l ∷ left) x
+      long : (p : Bool) → ltb 512 (bits_in l) ≡ p → (if p then Err (EntropyTooMuch (bits_in l)) else Ok (tt {0})) ≡ Err x → Event jets front (l ∷ left) x
       long true q e = same_fault (l ∷ left) (EntropyTooMuch (bits_in l)) x (cc) (b, stands o (refl, ltb-true 512 (bits_in l) q))
       long false q e = let z : ◌≡◌ {A = ℕ} 0 1 = cc in absurd (omega arith)
 
-      short : (p : Bool) → ltb (bits_in l) 128 ≡ p → (if p then Err (EntropyInsufficient (bits_in l)) else if ltb 512 (bits_in l) then Err (EntropyTooMuch (bits_in l)) else Ok tt) ≡ Err x → Event jets front (l ∷ left) x
+      short : (p : Bool) → ltb (bits_in l) 128 ≡ p → (if p then Err (EntropyInsufficient (bits_in l)) else if ltb 512 (bits_in l) then Err (EntropyTooMuch (bits_in l)) else Ok (tt {0})) ≡ Err x → Event jets front (l ∷ left) x
       short true q e = same_fault (l ∷ left) (EntropyInsufficient (bits_in l)) x (cc) (b, stands o (refl, ltb-true (bits_in l) 128 q))
       short false q e = long (ltb 512 (bits_in l)) refl e
 
@@ -150,7 +150,7 @@ module _ (jets : List ℕ) (front : List Token) where
   unfolding jet_verdict
   jet_event t left x i = go (known jets t.text) refl
     where
-      go : (p : Bool) → known jets t.text ≡ p → (if p then Ok tt else Err UnknownJet) ≡ Err x → Event jets front (t ∷ left) x
+      go : (p : Bool) → known jets t.text ≡ p → (if p then Ok (tt {0}) else Err UnknownJet) ≡ Err x → Event jets front (t ∷ left) x
       go true q e = let z : ◌≡◌ {A = ℕ} 0 1 = cc in absurd (omega arith)
       go false q e = same_fault (t ∷ left) UnknownJet x (cc) (stands i (λ p. let y : true ≡ false = sym ((known_piece jets t.text).1 p) ∙ q in let z : ◌≡◌ {A = ℕ} 0 1 = cc in omega arith))
 

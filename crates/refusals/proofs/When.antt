@@ -11,7 +11,7 @@ use lib.ListN.{length}
 use borrow.Author.Tests.{ltb-true, ltb-false, lt-ltb, le-ltb}
 use Rattle.records.specs.Limits.{source_limit}
 use Rattle.records.specs.Refusals as refusal
-use Rattle.text.specs.Check.{Right, check_text}
+use Rattle.text.specs.Check.{bad_at, Right, check_text}
 use Rattle.text.proofs.Declared.{check_right, right_once}
 use Rattle.lex.specs.Tokens.{Token, Lexing, lexing}
 use Rattle.lex.proofs.Tiling.{tiles_lexed}
@@ -29,9 +29,9 @@ use Rattle.refusals.proofs.Events.{refused_event}
 use Rattle.refusals.proofs.Cuts.{no_token_exactly, too_many_exactly, tokens_exactly}
 use Rattle.std.specs.Prelude.{Err, Ok, Result}
 use Rattle.text.specs.declared.TextError.{TextError}
-use Rattle.text.specs.declared.TextError.TheVariants.{BadAt}
 use Rattle.lex.specs.declared.LexError.{LexError}
-use Rattle.lex.specs.declared.LexError.TheVariants.{NoToken, TooManyTokens}
+use Rattle.lex.specs.declared.LexError.TheVariants.{ShortTable, LongSource, NotUtf8, NoToken, TooManyTokens}
+use Rattle.lex.proofs.Answers.{lexing_met}
 
 module _ (source jets : List ℕ) (old : Tables) where
   -- the condition of a reading
@@ -69,7 +69,7 @@ module _ (source jets : List ℕ) (old : Tables) where
   unfolding read_into reading
   when_reading refusal.short_table h = rw h
   when_reading refusal.long_source h = rw (h.0, lt-ltb source_limit (length source) h.1)
-  when_reading (refusal.not_utf8 p) h = text_reading (Err (BadAt p)) h.0 h.1
+  when_reading (refusal.not_utf8 p) h = text_reading (bad_at p) h.0 h.1
   when_reading (refusal.no_token p) h = valid_reading (Err (NoToken (record { 0 = p }))) h.0 ((no_token_exactly source p).1 h.1)
   when_reading (refusal.too_many_tokens p) h = valid_reading (Err (TooManyTokens (record { 0 = p }))) h.0 ((too_many_exactly source p).1 h.1)
   when_reading (refusal.parse_failed p) h = stops_reading ParseFailed p h
@@ -108,12 +108,15 @@ module _ (source jets : List ℕ) (old : Tables) where
 
       lexed : Valid source jets old → (a : Result ℕ LexError) → (lexing source).answer ≡ a → (x : Reading) × Condition x
       lexed h (Ok n) e = let t = (tokens_exactly source n).0 e in parsed t.0 (h, t.1, omega (arith, t.2, t.3)) (lines (checks_of jets) t.0) refl
+      lexed h (Err ShortTable) e = absurd (lexing_met source ShortTable e)
+      lexed h (Err LongSource) e = absurd (lexing_met source LongSource e)
+      lexed h (Err (NotUtf8 p)) e = absurd (lexing_met source (NotUtf8 p) e)
       lexed h (Err (NoToken p)) e = (refused (refusal.no_token p.0), (h, (no_token_exactly source p.0).0 e))
       lexed h (Err (TooManyTokens p)) e = (refused (refusal.too_many_tokens p.0), (h, (too_many_exactly source p.0).0 e))
 
       text : Small source jets old → (a : Result (Unit {0}) TextError) → Right source a → (x : Reading) × Condition x
       text h (Ok _) r = lexed (h, r) (lexing source).answer refl
-      text h (Err (BadAt p)) r = (refused (refusal.not_utf8 p), (h, r))
+      text h (Err x) r = (refused (refusal.not_utf8 x.at), (h, r))
 
       size : short_to_read old ≡ false → (b : Bool) → ltb source_limit (length source) ≡ b → (x : Reading) × Condition x
       size h true e = (refused refusal.long_source, (h, ltb-true source_limit (length source) e))

@@ -14,8 +14,7 @@ use Rattle.tables.specs.Tables.{word_at, written, span_at}
 use Rattle.literals.specs.Literals.{span_text}
 use Rattle.symbols.specs.Symbols.{find_from}
 use Rattle.symbols.specs.Texts.{texts_from}
-use Rattle.resolve.specs.declared.Walker.{Walker}
-use Rattle.resolve.specs.Words.{down_walker, used_in, kind_in, span_in, place_in, node_at, with_parent, bumped}
+use Rattle.resolve.specs.Words.{used_in, kind_in, span_in, place_in, node_at, with_parent, bumped}
 
 module _ (es nm : List ℕ) (e n : ℕ) where
   pub kind_none : e ≡ 0 → node.number node.noexpr ≡ kind_in es e
@@ -48,13 +47,10 @@ unfolding used_in
 used_by source es nm count e m es_eq e2 e3 =
     e3 ∙ ap (find_from 1 (texts_from source nm 1 count)) (e2 ∙ ap (span_text source) es_eq)
 
-pub bump_in : (nd nd' : List ℕ) (c i : ℕ) {x y : NodeRecord} {ws : List ℕ} → within 1 c i ≡ true → x ≡ node_at nd i → y ≡ with_parent x → ws ≡ node_words y → nd' ≡ written node_width nd i ws → nd' ≡ bumped nd c i
+pub bump_in : (nd nd' : List ℕ) (c i : ℕ) {x y : NodeRecord} → within 1 c i ≡ true → x ≡ node_at nd i → y ≡ with_parent x → nd' ≡ written node_width nd i (node_words y) → nd' ≡ bumped nd c i
 unfolding bumped
-bump_in nd nd' c i h e1 e2 e3 e4 = e4 ∙ ap (written node_width nd i) (e3 ∙ ap node_words (e2 ∙ ap with_parent e1)) ∙ rw h
+bump_in nd nd' c i h e1 e2 e3 = e3 ∙ ap (λ (y : NodeRecord). written node_width nd i (node_words y)) (e2 ∙ ap with_parent e1) ∙ rw h
 
 pub bump_out : (nd : List ℕ) (c i : ℕ) → within 1 c i ≡ false → nd ≡ bumped nd c i
 unfolding bumped
 bump_out nd c i h = rw h
-
-pub left_by_law : (w c e' : ℕ) (q : Walker) {e : ℕ} → e ≡ e' → q ≡ down_walker e 0 w c → q ≡ down_walker e' 0 w c
-left_by_law w c e' q e1 e2 = cc

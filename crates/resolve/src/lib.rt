@@ -2,6 +2,7 @@
 #![tactic(auto)]
 
 ghost use Rattle.std.specs.Prelude.{◌≡◌, true, List, ◌*◌, ◌-◌, ◌≤◌, length};
+ghost use Rattle.std.proofs.Common.{rules};
 ghost use Rattle.records.specs.Limits.{record_limit, name_width, node_width, work_width, expr_width};
 ghost use Rattle.records.specs.NodeKind as node;
 ghost use Rattle.tables.specs.Tables.{word_at, written, span_at};
@@ -12,7 +13,7 @@ ghost use Rattle.resolve.specs.Resolved.{HeldNames, Resolved};
 
 use records::kinds::NodeKind;
 use records::numbers::{ByteOffset, ExprNo, NameNo, NodeNo, WorkNo};
-use records::{ExprRecord, NameRecord, NodeRecord, Span, WorkRecord};
+use records::{ExprRecord, NameRecord, NodeRecord, Record, Span, WorkRecord};
 
 // The Rust's `StackItem`: an expression whose node is still to be made, the name whose outermost expression it is or 0, what it
 // waits for, and the node of its right child once that is made. Its words are a work record.
@@ -39,11 +40,14 @@ impl StackItem {
     pub const FOR_LEFT: u32 = 2;
 
     pub const FOR_NAME: u32 = 3;
+}
 
-    // The item's words.
-    fn words(self) -> [u32; WorkRecord::WORDS as usize]
-        ensures { result ≡ item_words self }
-    {
+impl Record<4> for StackItem {
+    ghost words_of = { item_words };
+
+    ghost narrow = { Prim.search rules };
+
+    fn words(self) -> [u32; 4] {
         [self.expr.0, self.name.0, self.waits, self.right.0]
     }
 }
@@ -90,14 +94,6 @@ fn item_at(work: &[u32], number: WorkNo) -> StackItem
     }
 }
 
-// Puts an item on the stack, as the one of this number.
-fn push(work: &mut [u32], number: WorkNo, item: StackItem)
-    ensures { work.new ≡ written work_width work.old number.0 (item_words item) }
-{
-    let words = item.words();
-    tables::write(work, WorkRecord::WORDS, number.0, &words);
-}
-
 // The span of an expression.
 fn expr_span(exprs: &[u32], expr: ExprNo) -> Span
     ensures { result ≡ span_at expr_width exprs.now expr.0 4 }
@@ -122,7 +118,7 @@ fn node_kind(exprs: &[u32], expr: ExprNo) -> NodeKind
     ensures { result.0 ≡ kind_in exprs.now expr.0 }
 {
     if expr.0 == 0 {
-        return NodeKind(NodeKind::NO_EXPR);
+        return NodeKind::NO_EXPR;
     }
     NodeKind(tables::word(exprs, ExprRecord::WORDS, expr.0, ExprRecord::KIND))
 }
@@ -159,7 +155,7 @@ fn make_node(
 )
     ensures { nodes.new ≡ nodes_with exprs.now names.now nodes.old made kind.0 item.expr.0 item.name.0 left.0 item.right.0 }
 {
-    let record = NodeRecord {
+    let node = NodeRecord {
         kind,
         start: node_place(exprs, names, item.expr, item.name),
         name: item.name,
@@ -168,21 +164,19 @@ fn make_node(
         span: node_span(exprs, names, item.expr, item.name),
         in_degree: 0,
     };
-    let words = record.words();
-    tables::write(nodes, NodeRecord::WORDS, cursor::next_number(made), &words);
+    tables::write_record(nodes, cursor::next_number(made), node);
 }
 
 // Sets the word of a name's node.
 fn set_node(names: &mut [u32], name: NameNo, node: NodeNo)
     ensures { names.new ≡ names_with names.old name.0 node.0 }
 {
-    let record = NameRecord {
+    let marked = NameRecord {
         span: symbols::name_span(names, name),
         expr: ExprNo(tables::word(names, NameRecord::WORDS, name.0, NameRecord::EXPR)),
         node,
     };
-    let words = record.words();
-    tables::write(names, NameRecord::WORDS, name.0, &words);
+    tables::write_record(names, name.0, marked);
 }
 
 // The node that a reference gets as its child, by its name's status; 0 if the name is not finished.
@@ -193,8 +187,8 @@ fn finished_node(status: u32) -> u32
 }
 
 // A reference with no child is missing.
-fn reference_kind(node: u32) -> u32
-    ensures { result ≡ reference_kind node }
+fn reference_kind(node: u32) -> NodeKind
+    ensures { result.0 ≡ reference_kind node }
 {
     if node == 0 {
         NodeKind::MISSING
@@ -266,12 +260,12 @@ fn refer(
     let status = tables::word(names, NameRecord::WORDS, used.0, NameRecord::NODE);
     if is_fresh(used.0, status) {
         let number = cursor::next_number(g.waiting);
-        push(work, WorkNo(number), item);
+        tables::write_record(work, number, item);
         let first = begin_name(names, used);
         return going_down(first, used, number, g.made);
     }
     let left = finished_node(status);
-    let kind = NodeKind(reference_kind(left));
+    let kind = reference_kind(left);
     make_node(exprs, names, nodes, g.made, kind, item, NodeNo(left));
     let number = cursor::next_number(g.made);
     coming_up(NodeNo(number), g.waiting, number)
@@ -287,7 +281,7 @@ fn turn_left(exprs: &[u32], work: &mut [u32], item: StackItem, right: NodeNo, g:
         right,
         ..item
     };
-    push(work, WorkNo(g.waiting), next);
+    tables::write_record(work, g.waiting, next);
     let left = tables::word(exprs, ExprRecord::WORDS, item.expr.0, ExprRecord::LEFT);
     going_down(ExprNo(left), NameNo(0), g.waiting, g.made)
 }
@@ -325,7 +319,7 @@ fn come_up(
     }
     let used = used_name(source, exprs, names, count, item.expr);
     set_node(names, used, node);
-    let kind = NodeKind(NodeKind::REFERENCE);
+    let kind = NodeKind::REFERENCE;
     make_node(exprs, names, nodes, g.made, kind, item, node);
     one_done(g)
 }
@@ -349,7 +343,7 @@ fn go_down(
         return coming_up(NodeNo(0), g.waiting, g.made);
     }
     let kind = tables::word(exprs, ExprRecord::WORDS, expr.0, ExprRecord::KIND);
-    if kind == NodeKind::REFERENCE {
+    if NodeKind(kind) == NodeKind::REFERENCE {
         return refer(source, exprs, names, count, nodes, work, expr, name, g);
     }
     let number = cursor::next_number(g.waiting);
@@ -359,7 +353,7 @@ fn go_down(
         waits: StackItem::FOR_RIGHT,
         right: NodeNo(0),
     };
-    push(work, WorkNo(number), item);
+    tables::write_record(work, number, item);
     let right = tables::word(exprs, ExprRecord::WORDS, expr.0, ExprRecord::RIGHT);
     going_down(ExprNo(right), NameNo(0), number, g.made)
 }
@@ -502,9 +496,7 @@ fn add_parent(nodes: &mut [u32], count: u32, i: u32)
     ensures { nodes.new ≡ bumped nodes.old count i }
 {
     if (1 <= i) & (i <= count) {
-        let record = with_parent(node_at(nodes, i));
-        let words = record.words();
-        tables::write(nodes, NodeRecord::WORDS, i, &words);
+        tables::write_record(nodes, i, with_parent(node_at(nodes, i)));
     }
 }
 

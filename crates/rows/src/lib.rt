@@ -8,6 +8,7 @@ ghost use Rattle.access.specs.Access.{name_text_of, is_root_at};
 ghost use Rattle.rows.specs.Rows.{node_word, error_word, name_word, refused_place, refused_row};
 ghost use Rattle.rows.specs.Words.{◌then◌, ended, Room, word_no, rows_from, MayPut, PutsRows, count_from, value_end, node_row_at, nodes_at, root_row_at, roots_at, error_row_at, errors_at, listed_at};
 
+use records::kinds::{ErrorKind, NodeKind};
 use records::numbers::{ByteOffset, NameNo};
 use records::refusals::Refusal;
 use records::{ErrorRecord, NodeRecord, Span};
@@ -61,16 +62,16 @@ const NODE_WORDS: [u32; 40] = [
 ];
 
 // Writes the word of a node's kind, and a space.
-fn put_node_kind(out: &mut [u8], at: usize, kind: u32) -> usize
-    requires { Room at (ended (node_word kind) 32) }
-    ensures { Puts (ended (node_word kind) 32) out.old at out.new result }
+fn put_node_kind(out: &mut [u8], at: usize, kind: NodeKind) -> usize
+    requires { Room at (ended (node_word kind.0) 32) }
+    ensures { Puts (ended (node_word kind.0) 32) out.old at out.new result }
 {
     put_word_no(
         out,
         at,
         b"missing noexpr ref assertl assertr iden unit injl injr take drop comp case pair disconnect witness hole fail jet word",
         &NODE_WORDS,
-        kind,
+        kind.0,
     )
 }
 
@@ -78,16 +79,16 @@ fn put_node_kind(out: &mut [u8], at: usize, kind: u32) -> usize
 const ERROR_WORDS: [u32; 8] = [0, 7, 8, 8, 17, 7, 25, 10];
 
 // Writes the word of an error's kind, and a space.
-fn put_error_kind(out: &mut [u8], at: usize, kind: u32) -> usize
-    requires { Room at (ended (error_word kind) 32) }
-    ensures { Puts (ended (error_word kind) 32) out.old at out.new result }
+fn put_error_kind(out: &mut [u8], at: usize, kind: ErrorKind) -> usize
+    requires { Room at (ended (error_word kind.0) 32) }
+    ensures { Puts (ended (error_word kind.0) 32) out.old at out.new result }
 {
     put_word_no(
         out,
         at,
         b"illegal repeated missing incomplete",
         &ERROR_WORDS,
-        kind,
+        kind.0,
     )
 }
 
@@ -117,11 +118,11 @@ fn put_node_front(
     names: &[u32],
     named: u32,
     number: u32,
-    kind: u32,
+    kind: NodeKind,
     name: NameNo,
 ) -> usize
-    requires { Room at (ended (decimal number) 32 then ended (node_word kind) 32 then ended (name_word (name_text_of source.now names.now named) name.0) 32) }
-    ensures { Puts (ended (decimal number) 32 then ended (node_word kind) 32 then ended (name_word (name_text_of source.now names.now named) name.0) 32) out.old at out.new result }
+    requires { Room at (ended (decimal number) 32 then ended (node_word kind.0) 32 then ended (name_word (name_text_of source.now names.now named) name.0) 32) }
+    ensures { Puts (ended (decimal number) 32 then ended (node_word kind.0) 32 then ended (name_word (name_text_of source.now names.now named) name.0) 32) out.old at out.new result }
 {
     let at = put_number(out, at, number, b' ');
     let at = put_node_kind(out, at, kind);
@@ -163,7 +164,16 @@ fn put_node(
     let name = tables::word(nodes, NodeRecord::WORDS, number, NodeRecord::NAME);
     let left = tables::word(nodes, NodeRecord::WORDS, number, NodeRecord::LEFT);
     let right = tables::word(nodes, NodeRecord::WORDS, number, NodeRecord::RIGHT);
-    let at = put_node_front(out, at, source, names, named, number, kind, NameNo(name));
+    let at = put_node_front(
+        out,
+        at,
+        source,
+        names,
+        named,
+        number,
+        NodeKind(kind),
+        NameNo(name),
+    );
     put_node_back(out, at, source, start, left, right)
 }
 
@@ -183,7 +193,7 @@ fn put_error(out: &mut [u8], at: usize, source: &[u8], errors: &[u32], number: u
         )),
         len: tables::word(errors, ErrorRecord::WORDS, number, ErrorRecord::NAME_LEN),
     };
-    let at = put_error_kind(out, at, kind);
+    let at = put_error_kind(out, at, ErrorKind(kind));
     let at = put_offset(out, at, source, start);
     put_word(out, at, cursor::span_text(source, name), b'\n')
 }

@@ -1,5 +1,5 @@
 -- A sheet in an output: its tables are long enough, and what was written counts bytes of it. Assumes nothing.
-use Rattle.std.specs.Prelude.{if◌then◌else◌}
+use Rattle.std.specs.Prelude.{if◌then◌else◌, None, Some}
 use Prim.Native.Nat.{ℕ, ◌*◌, ◌<◌, ◌≤◌}
 use mathlib.Core.Bool.{Bool, true, false}
 use mathlib.Core.Path.{◌≡◌, refl, sym, ap}
@@ -14,7 +14,6 @@ use Rattle.ast.specs.Parsing as ast
 use Rattle.print.specs.Text.{Puts}
 use Rattle.reader.specs.Reading.{reading, eight, short_to_read_by, read_into}
 use Rattle.listing.specs.Listing.{listing, list_answer, listed_in}
-use Rattle.ends.specs.declared.ListAnswer.TheVariants.{Listed, NoRoom}
 use Rattle.listing.proofs.Texts.{listed_all, listed_none}
 use Rattle.sheets.specs.Sheet.{jets_limit, refused_jets, sheet, bytes_of}
 
@@ -24,12 +23,12 @@ unfolding read_into short_to_read_by ast.short_to_parse_by
 own_tables source jets ts ls es ty ns xs rs ws a b c d e f g h = rw (a, b, c, d, e, f, g, h)
 
 -- a refused jet list: there is room for the words, or none
-pub refused_all : (out out' : List ℕ) (n : ℕ) → 13 ≤ length out → Puts refused_jets out 0 out' n → (Listed 13 ≡ list_answer refused_jets (length out)) × (out' ≡ listed_in refused_jets out)
+pub refused_all : (out out' : List ℕ) (n : ℕ) → 13 ≤ length out → Puts refused_jets out 0 out' n → (Some 13 ≡ list_answer refused_jets (length out)) × (out' ≡ listed_in refused_jets out)
 refused_all out out' n h p =
     let size : n ≡ 13 = omega (arith, p.behind) in
     rw size at (listed_all refused_jets out out' n true (sym (le-leb 13 (length out) h)) refl p)
 
-pub refused_none : (out : List ℕ) → length out < 13 → (NoRoom ≡ list_answer refused_jets (length out)) × (out ≡ listed_in refused_jets out)
+pub refused_none : (out : List ℕ) → length out < 13 → (None ≡ list_answer refused_jets (length out)) × (out ≡ listed_in refused_jets out)
 refused_none out h = listed_none refused_jets out false (sym (lt-leb 13 (length out) h)) refl
 
 -- the sheet by the length of the jet list
@@ -49,7 +48,7 @@ inside text out out' r e o = go (leb (length text) (length out)) e o
     within : (r : ℕ) (xs : List ℕ) → r ≤ length xs → (r ≤ length xs) × (r ≡ length (take r xs))
     within r xs h = (h, sym (length-take-le r xs h))
 
-    go : (b : Bool) → r ≡ bytes_of (if b then Listed (length text) else NoRoom) → out' ≡ (if b then text ++ drop (length text) out else out) → (r ≤ length out') × (r ≡ length (take r out'))
+    go : (b : Bool) → r ≡ bytes_of (if b then Some (length text) else None) → out' ≡ (if b then text ++ drop (length text) out else out) → (r ≤ length out') × (r ≡ length (take r out'))
     go true e o =
         within r out' (omega (arith, e, ap length o, length-append text (drop (length text) out)))
     go false e o = within r out' (omega (arith, e))

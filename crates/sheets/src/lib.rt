@@ -7,7 +7,6 @@ ghost use Rattle.reader.specs.Reading.{reading};
 ghost use Rattle.listing.specs.Listing.{listing, list_answer, listed_in};
 ghost use Rattle.sheets.specs.Sheet.{refused_jets, sheet, bytes_of};
 
-use ends::ListAnswer;
 use records::limits::Limits;
 use records::{
     ErrorRecord, ExprRecord, LineRecord, NameRecord, NodeRecord, TokenRecord, TypeRecord,
@@ -23,7 +22,7 @@ const RECORDS: usize = Limits::RECORDS as usize;
 const REFUSED: usize = 13;
 
 // Lists a source, with tables of its own.
-fn list_source(source: &[u8], jets: &[u8], out: &mut [u8]) -> ListAnswer
+fn list_source(source: &[u8], jets: &[u8], out: &mut [u8]) -> Option<usize>
     ensures answer { result ≡ list_answer (listing source.now (reading source.now jets.now)) (length out.old) }
     ensures output { out.new ≡ listed_in (listing source.now (reading source.now jets.now)) out.old }
 {
@@ -51,30 +50,27 @@ fn list_source(source: &[u8], jets: &[u8], out: &mut [u8]) -> ListAnswer
 }
 
 // Says that the jet list is refused.
-fn refuse_jets(out: &mut [u8]) -> ListAnswer
+fn refuse_jets(out: &mut [u8]) -> Option<usize>
     ensures answer { result ≡ list_answer refused_jets (length out.old) }
     ensures output { out.new ≡ listed_in refused_jets out.old }
 {
     if out.len() < REFUSED {
-        ListAnswer::NoRoom
+        None
     } else {
         print::put(out, 0, b"refused jets\n");
-        ListAnswer::Listed(REFUSED)
+        Some(REFUSED)
     }
 }
 
 // How many bytes were written.
-fn bytes_of(answer: ListAnswer) -> usize
+fn bytes_of(answer: Option<usize>) -> usize
     ensures { result ≡ bytes_of answer }
 {
-    match answer {
-        ListAnswer::Listed(n) => n,
-        ListAnswer::NoRoom => 0,
-    }
+    answer.unwrap_or(0)
 }
 
 // Writes the sheet, if there is room for all of it.
-fn fill(source: &[u8], jets: &[u8], out: &mut [u8]) -> ListAnswer
+fn fill(source: &[u8], jets: &[u8], out: &mut [u8]) -> Option<usize>
     ensures answer { result ≡ list_answer (sheet source.now jets.now) (length out.old) }
     ensures output { out.new ≡ listed_in (sheet source.now jets.now) out.old }
 {

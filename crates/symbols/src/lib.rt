@@ -7,7 +7,7 @@ ghost use Rattle.tables.specs.Tables.{span_at};
 ghost use Rattle.symbols.specs.Symbols.{illegal, find_from};
 ghost use Rattle.symbols.specs.Texts.{name_text, texts_from};
 
-use records::numbers::{ByteOffset, NameNo};
+use records::numbers::NameNo;
 use records::{NameRecord, Span};
 
 // Whether no line may have this name: it is `_` or begins with `prim`.
@@ -21,11 +21,7 @@ pub fn is_illegal(text: &[u8]) -> bool
 pub fn name_span(names: &[u32], number: NameNo) -> Span
     ensures { result ≡ span_at name_width names.now number.0 0 }
 {
-    let k = number.0;
-    Span {
-        start: ByteOffset(tables::word(names, NameRecord::WORDS, k, NameRecord::START)),
-        len: tables::word(names, NameRecord::WORDS, k, NameRecord::LEN),
-    }
+    tables::span(names, NameRecord::WORDS, number.0, NameRecord::START)
 }
 
 // The text of a name, as the very part of the source.

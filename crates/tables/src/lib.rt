@@ -1,15 +1,16 @@
 // The lent tables: words of records, read, written and cleared. Each function takes any words, of any length.
 #![tactic(auto)]
 
-ghost use Rattle.std.specs.Prelude.{◌≡◌, true, [], min, ◌-◌, ◌*◌, ◌^◌, ◌<◌, ◌≤◌, length, take, set};
+ghost use Rattle.std.specs.Prelude.{◌≡◌, true, [], min, ◌-◌, ◌*◌, ◌^◌, ◌<◌, ◌≤◌, length, take, set, ◌+◌};
 ghost use Rattle.records.specs.Base.{within};
 ghost use Rattle.records.specs.Limits.{record_limit};
 ghost use Rattle.std.proofs.lemmas.List.Edits.{sets};
-ghost use Rattle.tables.specs.Tables.{table_of, word_at, written};
+ghost use Rattle.tables.specs.Tables.{span_at, table_of, word_at, written};
 ghost use Rattle.tables.specs.Zeros.{all_zero, zeroed};
 
-use records::Record;
 use records::limits::Limits;
+use records::numbers::ByteOffset;
+use records::{Record, Span};
 
 // The lesser of two lengths.
 pub fn lesser(a: usize, b: usize) -> usize
@@ -64,6 +65,17 @@ pub fn word(table: &[u32], width: u32, number: u32, place: u32) -> u32
     }
     let at = begin(width, number) + place as usize;
     table.get(at).copied().unwrap_or(0)
+}
+
+// The span of a record whose start is the word at a place, and whose length is the next word.
+pub fn span(table: &[u32], width: u32, number: u32, place: u32) -> Span
+    requires { place + 1 < 2 ^ 32 }
+    ensures { result ≡ span_at width table.now number place }
+{
+    Span {
+        start: ByteOffset(word(table, width, number, place)),
+        len: word(table, width, number, place + 1),
+    }
 }
 
 // Writes the words of a record; for a number that is none, nothing.

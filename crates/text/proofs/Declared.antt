@@ -11,23 +11,22 @@ use lib.Dec.{eqb, eqb-suc-zero}
 use lib.ListN.{length, take, drop, length-append, take-append-drop, length-drop}
 use lib.Seq.{drop-append_seam, length-take-le, take-length, take_at, take-add}
 use Rattle.text.specs.Utf8.{rules, Char, Utf8, none, more, BadPlace}
-use Rattle.text.specs.Check.{Right, length_by, char_len, check_from, check_text}
+use Rattle.text.specs.Check.{bad_at, Right, length_by, char_len, check_from, check_text}
 use Rattle.text.proofs.Chars.{Found, length_char, char_length, rules_separate}
 use Rattle.text.proofs.Laws.{check_one}
 use Rattle.text.specs.declared.TextError.{TextError}
-use Rattle.text.specs.declared.TextError.TheVariants.{BadAt}
 
 -- there is only one right answer
 pub right_once : (s : List ℕ) (a b : Result (Unit {0}) TextError) → Right s a → Right s b → a ≡ b
 right_once s (Ok _) (Ok _) h k = refl
-right_once s (Ok _) (Err (BadAt n)) h k =
-    let m : length s ≤ n = k.longest (length s) (omega arith) (rw take-length h) in
+right_once s (Ok _) (Err n) h k =
+    let m : length s ≤ n.at = k.longest (length s) (omega arith) (rw take-length h) in
     absurd (omega (arith, k.inside))
-right_once s (Err (BadAt n)) (Ok _) k h =
-    let m : length s ≤ n = k.longest (length s) (omega arith) (rw take-length h) in
+right_once s (Err n) (Ok _) k h =
+    let m : length s ≤ n.at = k.longest (length s) (omega arith) (rw take-length h) in
     absurd (omega (arith, k.inside))
-right_once s (Err (BadAt n)) (Err (BadAt m)) h k =
-    ap (λ (i : ℕ). Err (BadAt i)) (le_antisymm (k.longest n (omega (arith, h.inside)) h.good) (h.longest m (omega (arith, k.inside)) k.good))
+right_once s (Err n) (Err m) h k =
+    ap bad_at (le_antisymm (k.longest n.at (omega (arith, h.inside)) h.good) (h.longest m.at (omega (arith, k.inside)) k.good))
 
 -- a well-formed front that is not empty begins with the character that is found
 front : {u : List ℕ} (m : ℕ) (s : List ℕ) → Utf8 u → take m s ≡ u → m ≤ length s → (m ≡ 0) ⊎ ((0 < char_len s) × (char_len s ≤ m) × Utf8 (take (m - char_len s) (drop (char_len s) s)))
@@ -45,12 +44,12 @@ front m s (more {c} {t} k u) e h =
 -- the answer for a text that stands at an offset
 abbrev RightAt : ℕ → List ℕ → Result (Unit {0}) TextError → Type 0
 RightAt at s (Ok _) = Utf8 s
-RightAt at s (Err (BadAt n)) = (j : ℕ) × (n ≡ at + j) × BadPlace s j
+RightAt at s (Err n) = (j : ℕ) × (n.at ≡ at + j) × BadPlace s j
 
 -- a character of n bytes and then an answer for the rest
 carry : (at n : ℕ) (s : List ℕ) → char_len s ≡ n → Char rules (take n s) → n ≤ length s → (a : Result (Unit {0}) TextError) → RightAt (at + n) (drop n s) a → RightAt at s a
 carry at n s e ch le (Ok _) u = rw take-append-drop at (more ch u)
-carry at n s e ch le (Err (BadAt m)) r =
+carry at n s e ch le (Err m) r =
     let p = r.2 in
     let j = r.0 in (
       n + j,
@@ -68,7 +67,7 @@ carry at n s e ch le (Err (BadAt m)) r =
       },
     )
 
-right_step : (at n : ℕ) (s : List ℕ) → 0 < length s → char_len s ≡ n → Found rules s n → (0 < n → RightAt (at + n) (drop n s) (check_from (at + n) 0 (drop n s))) → RightAt at s (if eqb n 0 then Err (BadAt at) else check_from (at + n) 0 (drop n s))
+right_step : (at n : ℕ) (s : List ℕ) → 0 < length s → char_len s ≡ n → Found rules s n → (0 < n → RightAt (at + n) (drop n s) (check_from (at + n) 0 (drop n s))) → RightAt at s (if eqb n 0 then bad_at at else check_from (at + n) 0 (drop n s))
 right_step at zero s h e f r = (
   0,
   omega arith,
@@ -97,4 +96,4 @@ check_right s = go (check_from 0 0 s) (right_at (length s) 0 s (omega arith))
   where
     go : (a : Result (Unit {0}) TextError) → RightAt 0 s a → Right s a
     go (Ok _) u = u
-    go (Err (BadAt n)) (j, e, p) = rw (e, zero-add) p
+    go (Err n) (j, e, p) = rw (e, zero-add) p

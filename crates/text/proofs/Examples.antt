@@ -2,10 +2,9 @@
 use Prim.Native.Nat.{ℕ}
 use mathlib.Core.Path.{◌≡◌, refl}
 use mathlib.Core.List.{List, [], ◌∷◌, map}
-use Rattle.text.specs.Check.{char_len, check_from, check_text}
+use Rattle.text.specs.Check.{bad_at, char_len, check_from, check_text}
 use Rattle.std.specs.Prelude.{Err, Ok, Result}
 use Rattle.text.specs.declared.TextError.{TextError}
-use Rattle.text.specs.declared.TextError.TheVariants.{BadAt}
 
 pub record Example : Type 0 where
   pub bytes : List ℕ
@@ -25,11 +24,11 @@ examples =
     -- U+FEFF U+233B4
     gives (0xEF ∷ 0xBB ∷ 0xBF ∷ 0xF0 ∷ 0xA3 ∷ 0x8E ∷ 0xB4 ∷ []) (Ok tt) ∷
     -- an overlong NUL
-    gives (0xC0 ∷ 0x80 ∷ []) (Err (BadAt 0)) ∷
+    gives (0xC0 ∷ 0x80 ∷ []) (bad_at 0) ∷
     -- an overlong form of `/../`
-    gives (0x2F ∷ 0xC0 ∷ 0xAE ∷ 0x2E ∷ 0x2F ∷ []) (Err (BadAt 1)) ∷
+    gives (0x2F ∷ 0xC0 ∷ 0xAE ∷ 0x2E ∷ 0x2F ∷ []) (bad_at 1) ∷
     -- a pair of surrogates
-    gives (0xED ∷ 0xA1 ∷ 0x8C ∷ 0xED ∷ 0xBE ∷ 0xB4 ∷ []) (Err (BadAt 0)) ∷ []
+    gives (0xED ∷ 0xA1 ∷ 0x8C ∷ 0xED ∷ 0xBE ∷ 0xB4 ∷ []) (bad_at 0) ∷ []
 
 pub examples_hold : map (λ (e : Example). check_text e.bytes) examples ≡ map (λ (e : Example). e.answer) examples
 unfolding check_from char_len

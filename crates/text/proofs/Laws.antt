@@ -14,11 +14,10 @@ use borrow.Author.Tests.{ne_eqb, leb-true, leb-false}
 use Rattle.records.proofs.Choices.{if_or}
 use Rattle.text.specs.declared.Position.{Position}
 use Rattle.text.specs.Utf8.{utf8_1, utf8_2, utf8_3, utf8_4}
-use Rattle.text.specs.Check.{begins_by, char_len, check_from}
+use Rattle.text.specs.Check.{bad_at, begins_by, char_len, check_from}
 use Rattle.text.proofs.Chars.{char_inside}
 use Rattle.text.specs.Place.{begins_char, pass, position_of}
 use Rattle.text.specs.declared.TextError.{TextError}
-use Rattle.text.specs.declared.TextError.TheVariants.{BadAt}
 
 -- ---- a character's length, by four tests, past the end of the text a 0 serving as well
 
@@ -61,14 +60,14 @@ check_skip at (suc k) [] = refl
 check_skip at (suc k) (b ∷ s) = check_skip (suc at) k s ∙ ap (λ (n : ℕ). check_from n 0 (drop k s)) (omega arith)
 
 -- a character at the front, or none
-pub check_one : (at : ℕ) (s : List ℕ) → 0 < length s → check_from at 0 s ≡ (if eqb (char_len s) 0 then Err (BadAt at) else check_from (at + char_len s) 0 (drop (char_len s) s))
+pub check_one : (at : ℕ) (s : List ℕ) → 0 < length s → check_from at 0 s ≡ (if eqb (char_len s) 0 then bad_at at else check_from (at + char_len s) 0 (drop (char_len s) s))
 unfolding check_from
 check_one at [] h = absurd (omega arith)
 check_one at (b ∷ t) h = go (char_len (b ∷ t))
   where
-    go : (n : ℕ) → (if eqb n 0 then Err (BadAt at) else check_from (suc at) (pred n) t) ≡ (if eqb n 0 then Err (BadAt at) else check_from (at + n) 0 (drop n (b ∷ t)))
+    go : (n : ℕ) → (if eqb n 0 then bad_at at else check_from (suc at) (pred n) t) ≡ (if eqb n 0 then bad_at at else check_from (at + n) 0 (drop n (b ∷ t)))
     go zero = refl
-    go (suc m) = ap (λ (x : Result (Unit {0}) TextError). if eqb (suc m) 0 then Err (BadAt at) else x) (check_skip (suc at) m t ∙ ap (λ (k : ℕ). check_from k 0 (drop m t)) (omega arith))
+    go (suc m) = ap (λ (x : Result (Unit {0}) TextError). if eqb (suc m) 0 then bad_at at else x) (check_skip (suc at) m t ∙ ap (λ (k : ℕ). check_from k 0 (drop m t)) (omega arith))
 
 -- n is the length of the character at i, as the code has it of the part from i on
 module _ (s : List ℕ) (i n : ℕ) (h : i < length s) (e : n ≡ char_len (take (length s - i) (drop i s))) where
@@ -78,7 +77,7 @@ module _ (s : List ℕ) (i n : ℕ) (h : i < length s) (e : n ≡ char_len (take
   of_rest : n ≡ char_len (drop i s)
   of_rest = e ∙ ap char_len (take_all (length s - i) (drop i s) (simp length-drop (omega arith)))
 
-  pub check_bad : n ≡ 0 → check_from i 0 (drop i s) ≡ Err (BadAt i)
+  pub check_bad : n ≡ 0 → check_from i 0 (drop i s) ≡ bad_at i
   check_bad z = check_one i (drop i s) some_left ∙ rw (← of_rest, z)
 
   pub check_more : (n ≡ 0 → ⊥) → check_from i 0 (drop i s) ≡ check_from (i + n) 0 (drop (i + n) s)

@@ -9,23 +9,20 @@ ghost use Rattle.text.specs.Place.{begins_char, pass, position_of};
 
 use records::refusals::{Cause, Refusal};
 
-// Why the bytes of a source are no text.
+// Bytes that are no text, and where: the first byte of the first ill-formed sequence.
 #[derive(Clone, Copy)]
-pub enum TextError {
-    // The first byte of the first ill-formed sequence.
-    BadAt(usize),
+pub struct TextError {
+    pub at: usize,
 }
 
 impl Cause for TextError {
     ghost row_of = { row_of_text_error };
 
     fn row(self) -> Refusal {
-        match self {
-            TextError::BadAt(at) => Refusal {
-                no: Refusal::NOT_UTF8,
-                value: 0,
-                place: at,
-            },
+        Refusal {
+            no: Refusal::NOT_UTF8,
+            value: 0,
+            place: self.at,
         }
     }
 }
@@ -111,7 +108,7 @@ pub fn check_text(source: &[u8]) -> Result<(), TextError>
     while i < source.len() {
         let n = char_len(&source[i..]);
         if n == 0 {
-            return Err(TextError::BadAt(i));
+            return Err(TextError { at: i });
         }
         i += n;
     }

@@ -18,7 +18,7 @@ use Rattle.checks.specs.Checks.{checks_of}
 use Rattle.cursor.specs.declared.Cursor.{Cursor}
 use Rattle.cursor.specs.declared.ParseRefusal.{ParseRefusal}
 use Rattle.cursor.specs.Tokens.{tokens_left}
-use Rattle.cursor.specs.Cursor.{refusal_at, stepped, next_number, Ready, Reached}
+use Rattle.cursor.specs.Cursor.{closed, refusal_at, stepped, next_number, Ready, Reached, Answer}
 use Rattle.cursor.proofs.Meets.{Meets, passes, refuses, meets}
 use Rattle.cursor.proofs.Steps.{next_below}
 use Rattle.cursor.proofs.Reached.{reached_ready, reached_after, reached_step, reached_first, some_left}
@@ -29,11 +29,11 @@ use Rattle.grammar.specs.Grammar.{TypeHead, whole, group, type_head, atom_by, at
 use Rattle.grammar.proofs.Takes.{type_records_law}
 use Rattle.grammar.specs.Recorded.{type_weight, type_no, type_records}
 use Rattle.types.specs.declared.TypeInner.{TypeInner}
-use Rattle.types.specs.declared.TypeAnswer.{TypeAnswer}
-use Rattle.types.specs.declared.TypeAnswer.TheVariants.{Read, Refused}
-use Rattle.types.specs.declared.AtomHead.{AtomHead}
-use Rattle.types.specs.declared.AtomHead.TheVariants.{Whole, Absent, Group, Refused as NoAtom}
 use Rattle.types.specs.Answers.{type_rows, TypeReads, type_record_by, finished, LeafType, HeadAt, AtomHeadReads, closed_type}
+use Rattle.records.specs.declared.numbers.TypeNo.{TypeNo}
+use Rattle.std.specs.Prelude.{Err, Ok}
+use Rattle.types.specs.declared.AtomHead.{AtomHead}
+use Rattle.types.specs.declared.AtomHead.TheVariants.{Absent, Group, Whole}
 
 -- ---- sizes
 
@@ -61,14 +61,14 @@ filled_stays x m old new e = ap (beyond type_width) e ∙ filled_beyond type_wid
 
 module _ (s t : List ℕ) (n : ℕ) where
   -- a refusal on the way, behind what was filled before
-  pub later_refusal : (c d : Cursor) (x : Fault) (rest : List Token) (r : TypeAnswer) (old mid new : List ℕ) → beyond type_width mid ≡ beyond type_width old → TypeReads s t n d (stop x rest) r mid new → TypeReads s t n c (stop x rest) r old new
+  pub later_refusal : (c d : Cursor) (x : Fault) (rest : List Token) (r : Answer TypeNo) (old mid new : List ℕ) → beyond type_width mid ≡ beyond type_width old → TypeReads s t n d (stop x rest) r mid new → TypeReads s t n c (stop x rest) r old new
   later_refusal c d x rest r old mid new b h = (h.0, h.1 ∙ b)
 
   -- ---- atoms
 
   module _ (c : Cursor) (ready : Ready n c) where
     -- a type of one record
-    leaf_reads : (x : Ty) (i : TypeInner) (u : Token) (rest : List Token) (r : TypeAnswer) (old new : List ℕ) → LeafType x i → tokens_left s t n c.token.0 ≡ u ∷ rest → r ≡ finished (stepped c) → new ≡ written type_width old (next_number c.ty.0) (type_words (type_record_by i)) → TypeReads s t n c (got x rest) r old new
+    leaf_reads : (x : Ty) (i : TypeInner) (u : Token) (rest : List Token) (r : Answer TypeNo) (old new : List ℕ) → LeafType x i → tokens_left s t n c.token.0 ≡ u ∷ rest → r ≡ finished (stepped c) → new ≡ written type_width old (next_number c.ty.0) (type_words (type_record_by i)) → TypeReads s t n c (got x rest) r old new
     leaf_reads x i u rest r old new leaf e f g =
         let below : c.token.0 < n = some_left s t n c.token.0 u rest e in
         let next : next_number c.ty.0 ≡ c.ty.0 + 1 = sym (next_below (omega (arith, ready.types, ready.few))) in
@@ -81,22 +81,22 @@ module _ (s t : List ℕ) (n : ℕ) where
           g ∙ rw next (sym (filled_one type_width old c.ty.0 (type_words (type_record_by i))) ∙ ap (λ (q : List TypeRecord). filled type_width old c.ty.0 (map type_words q)) (sym (leaf.row c.ty.0))),
         )
 
-    absent_reads : (u : Token) (rest : List Token) (old : List ℕ) → tokens_left s t n c.token.0 ≡ u ∷ rest → TypeReads s t n c (got tree.absent rest) (Read (record { 0 = 0 }) (stepped c)) old old
+    absent_reads : (u : Token) (rest : List Token) (old : List ℕ) → tokens_left s t n c.token.0 ≡ u ∷ rest → TypeReads s t n c (got tree.absent rest) (Ok ((record { 0 = 0 }), (stepped c))) old old
     unfolding present type_weight type_records filled
     absent_reads u rest old e =
         (stepped c, refl, reached_first s t n u ready e, refl)
 
     -- what stands in parentheses, and its closing one
-    group_reads : (P : Parsed Ty) (u : Token) (rest : List Token) (p r : TypeAnswer) (old new : List ℕ) → tokens_left s t n c.token.0 ≡ u ∷ rest → TypeReads s t n (stepped c) P p old new → r ≡ closed_type s t n p
+    group_reads : (P : Parsed Ty) (u : Token) (rest : List Token) (p r : Answer TypeNo) (old new : List ℕ) → tokens_left s t n c.token.0 ≡ u ∷ rest → TypeReads s t n (stepped c) P p old new → r ≡ closed_type s t n p
         → TypeReads s t n c (go_on P (λ x ts. go_on (expect token.rparen ts) (λ _. got x))) r old new
-    unfolding closed_type go_on
+    unfolding closed go_on
     group_reads (stop x q) u rest p r old new e h f = (f ∙ rw h.0, h.1)
     group_reads (got x q) u rest p r old new e h f = go (meets (length s) token.rparen h.0 q)
       where
         at : Reached s t n c h.0 q 0 (type_weight x)
         at = reached_after s t n (reached_first s t n u ready e) h.2
 
-        is : r ≡ closed_type s t n (Read (record { 0 = type_no x c.ty.0 }) h.0)
+        is : r ≡ closed_type s t n (Ok ((record { 0 = type_no x c.ty.0 }), h.0))
         is = f ∙ ap (closed_type s t n) h.1
 
         go : Meets (length s) token.rparen h.0 q → TypeReads s t n c (go_on (expect token.rparen q) (λ _. got x)) r old new
@@ -123,37 +123,40 @@ module _ (s t : List ℕ) (n : ℕ) where
       unfolding atom go_on
       unheaded ts x e = rw e
 
-      pub atom_whole : (ts : List Token) (h : AtomHead) (i : TypeInner) (d : Cursor) (r : TypeAnswer) (old new : List ℕ) → tokens_left s t n c.token.0 ≡ ts → AtomHeadReads jets (length s) c ts h → h ≡ Whole i d → r ≡ finished d
+      pub atom_whole : (ts : List Token) (h : Answer AtomHead) (i : TypeInner) (d : Cursor) (r : Answer TypeNo) (old new : List ℕ) → tokens_left s t n c.token.0 ≡ ts → AtomHeadReads jets (length s) c ts h → h ≡ Ok (Whole i, d) → r ≡ finished d
           → new ≡ written type_width old (next_number d.ty.0) (type_words (type_record_by i)) → TypeReads s t n c (An ts) r old new
       unfolding atom_by
       atom_whole [] h i d r old new e w f er en = let z : ◌≡◌ {A = ℕ} 0 1 = cc in absurd (omega arith)
       atom_whole (u ∷ rest) h i d r old new e w f er en =
-          let k : HeadAt jets u rest (stepped c) (Whole i d) = subst (HeadAt jets u rest (stepped c)) f w in
+          let k : HeadAt jets u rest (stepped c) (Ok (Whole i, d)) = subst (HeadAt jets u rest (stepped c)) f w in
           subst (λ (P : Parsed Ty). TypeReads s t n c P r old new) (sym (headed u rest (whole k.0) k.1))
           (leaf_reads k.0 i u rest r old new k.2 e (er ∙ ap finished k.3) (en ∙ ap (λ (q : Cursor). written type_width old (next_number q.ty.0) (type_words (type_record_by i))) k.3))
 
-      pub atom_absent : (ts : List Token) (h : AtomHead) (d : Cursor) (old : List ℕ) → tokens_left s t n c.token.0 ≡ ts → AtomHeadReads jets (length s) c ts h → h ≡ Absent d → TypeReads s t n c (An ts) (Read (record { 0 = 0 }) d) old old
+      pub atom_absent : (ts : List Token) (h : Answer AtomHead) (d : Cursor) (old : List ℕ) → tokens_left s t n c.token.0 ≡ ts → AtomHeadReads jets (length s) c ts h → h ≡ Ok (Absent, d) → TypeReads s t n c (An ts) (Ok ((record { 0 = 0 }), d)) old old
       unfolding atom_by
       atom_absent [] h d old e w f = let z : ◌≡◌ {A = ℕ} 0 1 = cc in absurd (omega arith)
       atom_absent (u ∷ rest) h d old e w f =
-          let k : HeadAt jets u rest (stepped c) (Absent d) = subst (HeadAt jets u rest (stepped c)) f w in
-          subst (λ (P : Parsed Ty). TypeReads s t n c P (Read (record { 0 = 0 }) d) old old) (sym (headed u rest (whole tree.absent) k.0))
-          (subst (λ (q : Cursor). TypeReads s t n c (got tree.absent rest) (Read (record { 0 = 0 }) q) old old) (sym k.1) (absent_reads u rest old e))
+          let k : HeadAt jets u rest (stepped c) (Ok (Absent, d)) = subst (HeadAt jets u rest (stepped c)) f w in
+          subst (λ (P : Parsed Ty). TypeReads s t n c P (Ok ((record { 0 = 0 }), d)) old old) (sym (headed u rest (whole tree.absent) k.0))
+          (subst (λ (q : Cursor). TypeReads s t n c (got tree.absent rest) (Ok ((record { 0 = 0 }), q)) old old) (sym k.1) (absent_reads u rest old e))
 
-      pub atom_group : (ts : List Token) (h : AtomHead) (d : Cursor) (p r : TypeAnswer) (old new : List ℕ) → tokens_left s t n c.token.0 ≡ ts → AtomHeadReads jets (length s) c ts h → h ≡ Group d
+      pub atom_group : (ts : List Token) (h : Answer AtomHead) (d : Cursor) (p r : Answer TypeNo) (old new : List ℕ) → tokens_left s t n c.token.0 ≡ ts → AtomHeadReads jets (length s) c ts h → h ≡ Ok (Group, d)
           → (Ready n d → TypeReads s t n d (T (tokens_left s t n d.token.0)) p old new) → r ≡ closed_type s t n p → TypeReads s t n c (An ts) r old new
       unfolding atom_by
       atom_group [] h d p r old new e w f i er = let z : ◌≡◌ {A = ℕ} 0 1 = cc in absurd (omega arith)
       atom_group (u ∷ rest) h d p r old new e w f i er =
-          let k : HeadAt jets u rest (stepped c) (Group d) = subst (HeadAt jets u rest (stepped c)) f w in
+          let k : HeadAt jets u rest (stepped c) (Ok (Group, d)) = subst (HeadAt jets u rest (stepped c)) f w in
           let at : Reached s t n c (stepped c) rest 0 0 = reached_first s t n u ready e in
           let inner : Ready n (stepped c) → TypeReads s t n (stepped c) (T (tokens_left s t n (stepped c).token.0)) p old new = subst (λ (q : Cursor). Ready n q → TypeReads s t n q (T (tokens_left s t n q.token.0)) p old new) k.1 i in
           let reads : TypeReads s t n (stepped c) (T rest) p old new = subst (λ (v : List Token). TypeReads s t n (stepped c) (T v) p old new) at.left (inner (reached_ready s t n ready at)) in
           subst (λ (P : Parsed Ty). TypeReads s t n c P r old new) (sym (headed u rest group k.0)) (group_reads (T rest) u rest p r old new e reads er)
 
-      pub atom_refused : (ts : List Token) (h : AtomHead) (x : ParseRefusal) (old : List ℕ) → tokens_left s t n c.token.0 ≡ ts → AtomHeadReads jets (length s) c ts h → h ≡ NoAtom x → TypeReads s t n c (An ts) (Refused x) old old
+      pub atom_refused : (ts : List Token) (h : Answer AtomHead) (x : ParseRefusal) (r : Answer TypeNo) (old : List ℕ) → tokens_left s t n c.token.0 ≡ ts → AtomHeadReads jets (length s) c ts h → h ≡ Err x → r ≡ Err x → TypeReads s t n c (An ts) r old old
       unfolding atom go_on type_head choice
-      atom_refused [] h x old e w f = (let z : NoAtom x ≡ NoAtom (refusal_at (length s) ParseFailed []) = sym f ∙ w in cc, refl)
-      atom_refused (u ∷ rest) h x old e w f =
-          let k : HeadAt jets u rest (stepped c) (NoAtom x) = subst (HeadAt jets u rest (stepped c)) f w in
-          subst (λ (P : Parsed Ty). TypeReads s t n c P (Refused x) old old) (sym (unheaded (u ∷ rest) k.0 k.1)) (ap Refused k.2, refl)
+      atom_refused [] h x r old e w f er =
+          let same : ◌≡◌ {A = Answer AtomHead} (Err x) (Err (refusal_at (length s) ParseFailed [])) = sym f ∙ w in
+          let z : x ≡ refusal_at (length s) ParseFailed [] = cc in
+          (er ∙ ap Err z, refl)
+      atom_refused (u ∷ rest) h x r old e w f er =
+          let k : HeadAt jets u rest (stepped c) (Err x) = subst (HeadAt jets u rest (stepped c)) f w in
+          subst (λ (P : Parsed Ty). TypeReads s t n c P r old old) (sym (unheaded (u ∷ rest) k.0 k.1)) (er ∙ ap Err k.2, refl)

@@ -1,5 +1,5 @@
 -- Types with operators: an operator behind a type, its operands joined, and the loop over them. Assumes nothing.
-use Rattle.std.specs.Prelude.{if◌then◌else◌}
+use Rattle.std.specs.Prelude.{if◌then◌else◌, Err, None, Ok, Some}
 use Prim.Native.Nat.{ℕ, zero, suc, ◌+◌, ◌-◌, ◌≤◌, ◌<◌}
 use mathlib.Core.Bool.{Bool, true, false}
 use mathlib.Core.Path.{◌≡◌, refl, sym, ap, subst, ◌∙◌}
@@ -26,7 +26,7 @@ use Rattle.checks.specs.Checks.{Checks}
 use Rattle.cursor.specs.declared.Cursor.{Cursor}
 use Rattle.cursor.specs.declared.ParseRefusal.{ParseRefusal}
 use Rattle.cursor.specs.Tokens.{tokens_left}
-use Rattle.cursor.specs.Cursor.{refusal_at, stepped, next_number, Ready, Reached}
+use Rattle.cursor.specs.Cursor.{refusal_at, stepped, next_number, Ready, Reached, Answer}
 use Rattle.cursor.proofs.Laws.{left_length}
 use Rattle.cursor.proofs.Steps.{next_below}
 use Rattle.cursor.proofs.Reached.{reached_ready, reached_step}
@@ -35,12 +35,10 @@ use Rattle.grammar.specs.Tree.{Ty, Op, present}
 use Rattle.grammar.specs.Rule.{Parsed, got, stop, Rule, go_on, entry, perhaps, repeat_for, repeat}
 use Rattle.grammar.specs.Grammar.{operators, operand, chain, atom, type}
 use Rattle.grammar.specs.Recorded.{type_record, op_kind, type_weight, type_no, type_records}
-use Rattle.types.specs.declared.TypeAnswer.{TypeAnswer}
-use Rattle.types.specs.declared.TypeAnswer.TheVariants.{Read, Refused}
 use Rattle.types.specs.declared.Op.{Op as CodeOp}
 use Rattle.types.specs.declared.Op.TheVariants.{Sum as Plus, Product as Star}
-use Rattle.types.specs.declared.Operator.TheVariants.{Is, Over}
 use Rattle.types.specs.Answers.{type_rows, TypeReads, type_record_by, finished, operator_by, operator_at, operator_read, joined_table, op_inner}
+use Rattle.records.proofs.Pairs.{some_three, some_none}
 use Rattle.types.proofs.Atoms.{present_weighs, rows_weigh, rows_append, filled_stays}
 
 -- the operator of the trees
@@ -52,8 +50,8 @@ tree_op Star = tree.product
 
 -- what comes behind a type, for the code and for the grammar
 data Sees (l : TypeNo) (d : Cursor) (ts : List Token) : Type 0 where
-  one : (o : CodeOp) (u : Token) (rest : List Token) → ts ≡ u ∷ rest → operator_by l d ts ≡ Is o l (stepped d) → perhaps operators ts ≡ got (some (tree_op o)) rest → Sees l d ts
-  none_more : operator_by l d ts ≡ Over → perhaps operators ts ≡ got none ts → Sees l d ts
+  one : (o : CodeOp) (u : Token) (rest : List Token) → ts ≡ u ∷ rest → operator_by l d ts ≡ Some (o, l, (stepped d)) → perhaps operators ts ≡ got (some (tree_op o)) rest → Sees l d ts
+  none_more : operator_by l d ts ≡ None → perhaps operators ts ≡ got none ts → Sees l d ts
 
 sees : (l : TypeNo) (d : Cursor) (ts : List Token) → Sees l d ts
 unfolding perhaps entry
@@ -146,7 +144,7 @@ module _ (s t : List ℕ) (n : ℕ) (c : Cursor) (ready : Ready n c) where
           }
 
       -- an absent operand makes the whole absent
-      join_absent : (r : TypeAnswer) (new : List ℕ) → present both_of ≡ false → r ≡ Read (record { 0 = 0 }) f → new ≡ end → TypeReads s t n c (got both_of q) r old new
+      join_absent : (r : Answer TypeNo) (new : List ℕ) → present both_of ≡ false → r ≡ Ok ((record { 0 = 0 }), f) → new ≡ end → TypeReads s t n c (got both_of q) r old new
       unfolding type_weight
       join_absent r new e er en = (
         f,
@@ -155,20 +153,20 @@ module _ (s t : List ℕ) (n : ℕ) (c : Cursor) (ready : Ready n c) where
         en ∙ filled_two o x y m old is_mid there ∙ ap (filled type_width old m) (sym (rows_one o x y m e)),
       )
 
-      join_present : (r : TypeAnswer) (new : List ℕ) → present both_of ≡ true → r ≡ finished f → new ≡ written type_width end (next_number f.ty.0) (type_words (type_record_by (op_inner o number right))) → TypeReads s t n c (got both_of q) r old new
+      join_present : (r : Answer TypeNo) (new : List ℕ) → present both_of ≡ true → r ≡ finished f → new ≡ written type_width end (next_number f.ty.0) (type_words (type_record_by (op_inner o number right))) → TypeReads s t n c (got both_of q) r old new
       unfolding type_weight
       join_present r new e er en =
           let g : Cursor = record { token = f.token; expr = f.expr; ty = record { 0 = next_number f.ty.0 } } in
           let no : type_no both_of m ≡ next_number f.ty.0 = rw e (omega (arith, next)) in
           let row : type_words (type_record_by (op_inner o number right)) ≡ type_words (joins o x y m) = op_row o x m (type_no y d.ty.0) ∙ ap (λ (k : ℕ). type_words (type_record (op_kind (tree_op o)) (type_no x m) (type_no y k) 0)) from in (
             g,
-            er ∙ ap (λ (k : ℕ). Read (record { 0 = k }) g) (sym no),
+            er ∙ ap (λ (k : ℕ). Ok ((record { 0 = k }), g)) (sym no),
             rw e (reached g 1 (omega arith) refl refl (omega (arith, next, count))),
             filled_three o x y m old is_mid there (en ∙ rw (next, row)) ∙ ap (filled type_width old m) (sym (rows_both o x y m e)),
           )
 
       -- by which operands are present
-      join_got : (r : TypeAnswer) (new : List ℕ) → r ≡ operator_read number (Read right f) → new ≡ joined_table o number (Read right f) end → TypeReads s t n c (got both_of q) r old new
+      join_got : (r : Answer TypeNo) (new : List ℕ) → r ≡ operator_read number (Ok (right, f)) → new ≡ joined_table o number (Ok (right, f)) end → TypeReads s t n c (got both_of q) r old new
       unfolding operator_read joined_table present
       join_got r new er en = go (present x) refl (present y) refl
         where
@@ -184,11 +182,11 @@ module _ (s t : List ℕ) (n : ℕ) (c : Cursor) (ready : Ready n c) where
               join_present r new (rw (ea, eb)) (er ∙ if_both _ _ _ nx ny) (en ∙ if_both _ _ _ nx ny)
 
     -- whatever the right operand is
-    join_reads : (Q : Parsed Ty) (p r : TypeAnswer) (end new : List ℕ) → TypeReads s t n (stepped d) Q p mid end → r ≡ operator_read number p → new ≡ joined_table o number p end → TypeReads s t n c (joined_to Q) r old new
+    join_reads : (Q : Parsed Ty) (p r : Answer TypeNo) (end new : List ℕ) → TypeReads s t n (stepped d) Q p mid end → r ≡ operator_read number p → new ≡ joined_table o number p end → TypeReads s t n c (joined_to Q) r old new
     unfolding go_on operator_read joined_table
-    join_reads (got y q) p r end new h er en = join_got y h.0 q end h.2 h.3 r new (er ∙ ap (operator_read number) h.1) (en ∙ ap (λ (v : TypeAnswer). joined_table o number v end) h.1)
+    join_reads (got y q) p r end new h er en = join_got y h.0 q end h.2 h.3 r new (er ∙ ap (operator_read number) h.1) (en ∙ ap (λ (v : Answer TypeNo). joined_table o number v end) h.1)
     join_reads (stop z q) p r end new h er en =
-        let same : new ≡ end = en ∙ ap (λ (v : TypeAnswer). joined_table o number v end) h.0 in
+        let same : new ≡ end = en ∙ ap (λ (v : Answer TypeNo). joined_table o number v end) h.0 in
         (er ∙ ap (operator_read number) h.0, ap (beyond type_width) same ∙ h.1 ∙ filled_stays x m old mid is_mid)
 
 -- ---- the loop over operators
@@ -231,7 +229,7 @@ module _ (checks : Checks) (d : ℕ) where
 
   module _ (s t : List ℕ) (n : ℕ) (c : Cursor) (ready : Ready n c) (W : Parsed Ty) where
     -- what was read so far stands in the table, and what is still to be read follows it
-    pub Going : (turns : ℕ) → TypeAnswer → (old new : List ℕ) → Type 0
+    pub Going : (turns : ℕ) → Answer TypeNo → (old new : List ℕ) → Type 0
     Going i p old new = (P : Parsed Ty) × TypeReads s t n c P p old new × Left W P (n - i)
 
     atom_less : (ts rest : List Token) (x : Ty) → A ts ≡ got x rest → length rest ≤ length ts
@@ -239,14 +237,14 @@ module _ (checks : Checks) (d : ℕ) where
         let k = atom_takes checks d ts rest x e in
         omega (arith, ap length k.split, length-append k.used rest)
 
-    pub going_start : (p : TypeAnswer) (old new : List ℕ) → W ≡ type checks (suc d) (tokens_left s t n c.token.0) → TypeReads s t n c (A (tokens_left s t n c.token.0)) p old new → Going 0 p old new
+    pub going_start : (p : Answer TypeNo) (old new : List ℕ) → W ≡ type checks (suc d) (tokens_left s t n c.token.0) → TypeReads s t n c (A (tokens_left s t n c.token.0)) p old new → Going 0 p old new
     unfolding Going
     going_start p old new e h =
         let ts = tokens_left s t n c.token.0 in
         (A ts, h, rw e (begun ts (n - 0) (omega (arith, left_length s t n c.token.0)) (λ l rest a. atom_less ts rest l a)))
 
     -- no operator follows
-    pub going_over : (i : ℕ) (p : TypeAnswer) (old new : List ℕ) → Going i p old new → operator_at s t n p ≡ Over → TypeReads s t n c W p old new
+    pub going_over : (i : ℕ) (p : Answer TypeNo) (old new : List ℕ) → Going i p old new → operator_at s t n p ≡ None → TypeReads s t n c W p old new
     unfolding Going Left operator_at
     going_over i p old new (stop x rest, h, l) e = rw l h
     going_over i p old new (got x rest, h, l) e = go (sees number h.0 rest)
@@ -254,25 +252,25 @@ module _ (checks : Checks) (d : ℕ) where
         number : TypeNo
         number = record { 0 = type_no x c.ty.0 }
 
-        is : operator_by number h.0 rest ≡ Over
+        is : operator_by number h.0 rest ≡ None
         is = ap (operator_by number h.0) (sym h.2.left) ∙ ap (operator_at s t n) (sym h.1) ∙ e
 
         go : Sees number h.0 rest → TypeReads s t n c W p old new
-        go (one o u q eq ec ep) = let z : Is o number (stepped h.0) ≡ Over = sym ec ∙ is in let y : ◌≡◌ {A = ℕ} 0 1 = cc in absurd (omega arith)
+        go (one o u q eq ec ep) = absurd (some_none (sym ec ∙ is))
         go (none_more ec ep) = rw (left_over W x rest (n - i) l ep) h
 
     -- no turn is left
-    pub going_done : (i : ℕ) (p : TypeAnswer) (old new : List ℕ) → n ≤ i → Going i p old new → TypeReads s t n c W p old new
+    pub going_done : (i : ℕ) (p : Answer TypeNo) (old new : List ℕ) → n ≤ i → Going i p old new → TypeReads s t n c W p old new
     unfolding Going Left perhaps
     going_done i p old new k (stop x rest, h, l) = rw l h
     going_done i p old new k (got x [], h, l) = rw (left_over W x [] (n - i) l refl) h
     going_done i p old new k (got x (u ∷ rest), h, l) = absurd (omega (arith, l.3))
 
     -- an operator and its right operand
-    pub going_on : (i : ℕ) (o : CodeOp) (l : TypeNo) (e : Cursor) (p q r : TypeAnswer) (old mid end new : List ℕ) → i < n → Going i p old mid → operator_at s t n p ≡ Is o l e → (Ready n e → TypeReads s t n e (A (tokens_left s t n e.token.0)) q mid end) → r ≡ operator_read l q → new ≡ joined_table o l q end → Going (i + 1) r old new
+    pub going_on : (i : ℕ) (o : CodeOp) (l : TypeNo) (e : Cursor) (p q r : Answer TypeNo) (old mid end new : List ℕ) → i < n → Going i p old mid → operator_at s t n p ≡ Some (o, l, e) → (Ready n e → TypeReads s t n e (A (tokens_left s t n e.token.0)) q mid end) → r ≡ operator_read l q → new ≡ joined_table o l q end → Going (i + 1) r old new
     unfolding Going Left operator_at
     going_on i o l e p q r old mid end new k (stop x rest, h, g) is reads er en =
-        let z : Over ≡ Is o l e = sym (ap (operator_at s t n) h.0) ∙ is in let y : ◌≡◌ {A = ℕ} 0 1 = cc in absurd (omega arith)
+        absurd (some_none (sym (sym (ap (operator_at s t n) h.0) ∙ is)))
     going_on i o l e p q r old mid end new k (got x rest, h, g) is reads er en = go (sees number f rest)
       where
         f : Cursor
@@ -281,16 +279,16 @@ module _ (checks : Checks) (d : ℕ) where
         number : TypeNo
         number = record { 0 = type_no x c.ty.0 }
 
-        sees_it : operator_by number f rest ≡ Is o l e
+        sees_it : operator_by number f rest ≡ Some (o, l, e)
         sees_it = ap (operator_by number f) (sym h.2.left) ∙ ap (operator_at s t n) (sym h.1) ∙ is
 
         go : Sees number f rest → Going (i + 1) r old new
-        go (none_more ec ep) = let z : Over ≡ Is o l e = sym ec ∙ sees_it in let y : ◌≡◌ {A = ℕ} 0 1 = cc in absurd (omega arith)
+        go (none_more ec ep) = absurd (some_none (sym (sym ec ∙ sees_it)))
         go (one o' u later eq ec ep) =
-            let same : Is o' number (stepped f) ≡ Is o l e = sym ec ∙ sees_it in
-            let eo : o' ≡ o = cc in
-            let el : number ≡ l = cc in
-            let ee : stepped f ≡ e = cc in
+            let same = some_three (sym ec ∙ sees_it) in
+            let eo : o' ≡ o = same.0 in
+            let el : number ≡ l = same.1 in
+            let ee : stepped f ≡ e = same.2 in
             let to_f : Reached s t n c f (u ∷ later) 0 (type_weight x) = subst (λ (v : List Token). Reached s t n c f v 0 (type_weight x)) eq h.2 in
             let behind : Reached s t n c (stepped f) later 0 (type_weight x) = reached_step s t n u to_f in
             let right : TypeReads s t n (stepped f) (A later) q mid end =
@@ -304,9 +302,9 @@ module _ (checks : Checks) (d : ℕ) where
 
 module _ (checks : Checks) (s t : List ℕ) (n d : ℕ) (c : Cursor) where
   -- no depth is left
-  pub too_deep_law : d ≡ 0 → (r : ParseRefusal) (old : List ℕ) → r ≡ refusal_at (length s) TooDeep (tokens_left s t n c.token.0) → TypeReads s t n c (type checks d (tokens_left s t n c.token.0)) (Refused r) old old
+  pub too_deep_law : d ≡ 0 → (r : ParseRefusal) (old : List ℕ) → r ≡ refusal_at (length s) TooDeep (tokens_left s t n c.token.0) → TypeReads s t n c (type checks d (tokens_left s t n c.token.0)) (Err r) old old
   unfolding type
-  too_deep_law e r old f = rw e (ap Refused f, refl)
+  too_deep_law e r old f = rw e (ap Err f, refl)
 
 -- a depth that is not 0
 pub from_depth : (checks : Checks) (d : ℕ) (ts : List Token) → ¬ (d ≡ 0) → type checks d ts ≡ type checks (suc (d - 1)) ts

@@ -18,11 +18,12 @@ use Rattle.grammar.specs.Rule.{go_on, entry, choice}
 use Rattle.grammar.specs.Grammar.{power_of, type_heads, type_head}
 use Rattle.grammar.specs.Recorded.{type_weight, type_records}
 use Rattle.types.specs.declared.TypeInner.TheVariants.{Name, One, Two}
-use Rattle.types.specs.declared.AtomHead.{AtomHead}
-use Rattle.types.specs.declared.AtomHead.TheVariants.{Whole, Absent, Group, Refused as NoAtom}
 use Rattle.types.specs.Answers.{type_record_by, LeafType, power_inner, power_head, HeadAt}
 use Rattle.checks.specs.declared.Fault.{Fault}
 use Rattle.std.specs.Prelude.{Err, Ok, Result}
+use Rattle.cursor.specs.Cursor.{Answer}
+use Rattle.types.specs.declared.AtomHead.{AtomHead}
+use Rattle.types.specs.declared.AtomHead.TheVariants.{Absent, Group, Whole}
 
 -- the types of one record
 leaf_one : LeafType tree.one One
@@ -43,25 +44,25 @@ module _ (source jets : List ℕ) (r : TokenRecord) (rest : List Token) (c : Cur
   t = token_of source r
 
   -- a name, by the record that is the token's own
-  pub head_name : r.kind.0 ≡ token.number token.symbol → r ≡ record_of t → HeadAt jets t rest c (Whole (Name r.span) c)
+  pub head_name : r.kind.0 ≡ token.number token.symbol → r ≡ record_of t → HeadAt jets t rest c (Ok (Whole (Name r.span), c))
   unfolding type_head choice entry go_on present type_weight type_records
   head_name e f =
       let row : (m : ℕ) → type_records (tree.name t) m ≡ type_record_by (Name r.span) ∷ [] = λ m. ap (λ (q : TokenRecord). type_record_by (Name q.span) ∷ []) (sym f) in
       (tree.name t, rw e, record { here = refl; one = refl; row = row }, refl)
 
-  pub head_group : r.kind.0 ≡ token.number token.lparen → HeadAt jets t rest c (Group c)
+  pub head_group : r.kind.0 ≡ token.number token.lparen → HeadAt jets t rest c (Ok (Group, c))
   unfolding type_head choice entry go_on
   head_group e = (rw e, refl)
 
-  pub head_absent : r.kind.0 ≡ token.number token.underscore → HeadAt jets t rest c (Absent c)
+  pub head_absent : r.kind.0 ≡ token.number token.underscore → HeadAt jets t rest c (Ok (Absent, c))
   unfolding type_head choice entry go_on
   head_absent e = (rw e, refl)
 
-  pub head_one : r.kind.0 ≡ token.number token.one → HeadAt jets t rest c (Whole One c)
+  pub head_one : r.kind.0 ≡ token.number token.one → HeadAt jets t rest c (Ok (Whole One, c))
   unfolding type_head choice entry go_on
   head_one e = (tree.one, rw e, leaf_one, refl)
 
-  pub head_two : r.kind.0 ≡ token.number token.two → HeadAt jets t rest c (Whole Two c)
+  pub head_two : r.kind.0 ≡ token.number token.two → HeadAt jets t rest c (Ok (Whole Two, c))
   unfolding type_head choice entry go_on
   head_two e = (tree.two, rw e, leaf_two, refl)
 
@@ -70,9 +71,9 @@ module _ (source jets : List ℕ) (r : TokenRecord) (rest : List Token) (c : Cur
   head_power (Ok n) e f = (power_of n, rw (e, f), leaf_power n, refl)
   head_power (Err x) e f = (x, rw (e, f), refl)
 
-  pub head_powered : (h : AtomHead) → r.kind.0 ≡ token.number token.power → h ≡ power_head (power_verdict (span_text source r.span)) r.span.start c → HeadAt jets t rest c h
+  pub head_powered : (h : Answer AtomHead) → r.kind.0 ≡ token.number token.power → h ≡ power_head (power_verdict (span_text source r.span)) r.span.start c → HeadAt jets t rest c h
   head_powered h e f = rw f (head_power (power_verdict (span_text source r.span)) e refl)
 
-  pub head_none : NotIn (28 ∷ 27 ∷ 29 ∷ 34 ∷ 26 ∷ 4 ∷ []) r.kind.0 → HeadAt jets t rest c (NoAtom (record { fault = ParseFailed; at = r.span.start }))
+  pub head_none : NotIn (28 ∷ 27 ∷ 29 ∷ 34 ∷ 26 ∷ 4 ∷ []) r.kind.0 → HeadAt jets t rest c (Err (record { fault = ParseFailed; at = r.span.start }))
   unfolding type_head go_on
   head_none h = (ParseFailed, rw (choice_none (type_heads (checks_of jets)) (28 ∷ 27 ∷ 29 ∷ 34 ∷ 26 ∷ 4 ∷ []) t rest refl h), refl)

@@ -4,9 +4,9 @@ ghost use Rattle.std.specs.Prelude.{◌≡◌, ◌+◌, ◌<◌, ◌≤◌, ◌^
 
 use crate::stored;
 use crate::stored::Stored;
-use records::TokenRecord;
 use records::limits::Limits;
 use records::refusals::Refusal;
+use records::{TokenRecord, refusals};
 
 // How many texts were compared, how many places of tokens agree, and how many cases are bad.
 #[derive(Clone, Copy)]
@@ -49,7 +49,7 @@ pub(crate) fn judge(one: Tally, sheet: bool) -> Tally
 
 // Whether the text check gives the stored row of refusal 3, and none where another answer is stored.
 fn text_agrees(source: &[u8], a: Stored) -> bool {
-    let row = text::check_text(source).row();
+    let row = refusals::row(text::check_text(source));
     if a.no == Refusal::NOT_UTF8 {
         return (row.no == a.no) & (row.value == a.value) & (row.place == a.place);
     }
@@ -85,7 +85,7 @@ fn tokens_agree(source: &[u8], bytes: &[u8], a: Stored) -> bool
 {
     let mut tokens = [0u32; TOKEN_TABLE];
     let answer = lex::lex_all(source, &mut tokens);
-    let row = answer.row();
+    let row = refusals::row(answer);
     if (a.no != Refusal::NONE) & (a.no <= Refusal::TOO_MANY_TOKENS) {
         return (row.no == a.no) & (row.value == a.value) & (row.place == a.place);
     }
@@ -93,7 +93,7 @@ fn tokens_agree(source: &[u8], bytes: &[u8], a: Stored) -> bool
         return row.no == Refusal::NONE;
     }
     (row.no == Refusal::NONE)
-        & (answer.count() as usize == a.tokens)
+        & (lex::count(answer) as usize == a.tokens)
         & words_agree(&tokens, bytes, TokenRecord::WORDS as usize * a.tokens)
 }
 

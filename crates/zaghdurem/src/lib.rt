@@ -16,10 +16,10 @@ ghost use Rattle.reader.specs.Reading.{eight, read_into, read_tables, answer_of}
 ghost use Rattle.answers.specs.Rows.{lexed_row, parsed_row, read_row, part_row, listed_row};
 
 use answers::{LexedRow, ListedRow, ParsedRow, PartRow, ReadRow};
-use records::Span;
 use records::limits::Limits;
 use records::numbers::{ByteOffset, NameNo};
 use records::refusals::Refusal;
+use records::{Span, refusals};
 use text::Position;
 
 // The limits, and the words of a record of each table.
@@ -36,7 +36,7 @@ pub extern "C" fn zaghdurem_check_text(source: &[u8]) -> Refusal
     ensures { result ≡ row_of_text (check_text source.now) }
 {
     let answer = text::check_text(source);
-    answer.row()
+    refusals::row(answer)
 }
 
 // The line and column of an offset, for any bytes.

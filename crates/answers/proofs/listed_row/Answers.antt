@@ -3,10 +3,10 @@ use mathlib.Core.Path.{sym, ap}
 use Rattle.answers.specs.Rows.{listed_row}
 use Rattle.answers.proofs.listed_row.Goals as goal
 
-pub returns-in-Listed : goal.returns-in-Listed
+pub returns-in-Some : goal.returns-in-Some
 unfolding listed_row
-returns-in-Listed c = ap listed_row (sym c.in-Listed.is)
+returns-in-Some c = ap listed_row (sym c.in-Some.is)
 
-pub returns-in-NoRoom : goal.returns-in-NoRoom
+pub returns-in-None : goal.returns-in-None
 unfolding listed_row
-returns-in-NoRoom c = ap listed_row (sym c.in-NoRoom.is)
+returns-in-None c = ap listed_row (sym c.in-None.is)

@@ -3,4 +3,4 @@ use Rattle.answers.proofs.Rows as rows
 use Rattle.answers.proofs.parsed_row.Goals as goal
 
 pub returns : goal.returns
-returns c = rows.parsed_row_law _ _ _ c.row-row.ensures c.counts-counts.ensures
+returns c = rows.parsed_row_law _ _ _ c.row-row.ensures c.parse_counts-counts.ensures

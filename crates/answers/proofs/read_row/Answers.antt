@@ -3,4 +3,4 @@ use Rattle.answers.proofs.Rows as rows
 use Rattle.answers.proofs.read_row.Goals as goal
 
 pub returns : goal.returns
-returns c = rows.read_row_law _ _ _ c.row-row.ensures c.counts-counts.ensures
+returns c = rows.read_row_law _ _ _ c.row-row.ensures c.read_counts-counts.ensures

@@ -3,8 +3,8 @@ use Rattle.checks.specs.Checks.{checks_of}
 use Rattle.arrows.proofs.Arrows.{no_arrow, an_arrow}
 use Rattle.arrows.proofs.parse_optional_arrow.Goals as goal
 
-pub returns-in-Passed : goal.returns-in-Passed
-returns-in-Passed c = λ jets ready. an_arrow _ _ _ _ ready (checks_of jets) _ c.expect.ensures _ _ _ _ c.in-Passed.is (c.parse_arrow.ensures jets)
+pub returns-in-Ok : goal.returns-in-Ok
+returns-in-Ok c = λ jets ready. an_arrow _ _ _ _ ready (checks_of jets) _ c.expect.ensures _ _ _ _ c.in-Ok.is (c.parse_arrow.ensures jets)
 
-pub returns-in-Refused : goal.returns-in-Refused
-returns-in-Refused c = λ jets ready. no_arrow _ _ _ _ ready (checks_of jets) _ c.expect.ensures _ _ c.in-Refused.is
+pub returns-in-Err : goal.returns-in-Err
+returns-in-Err c = λ jets ready. no_arrow _ _ _ _ ready (checks_of jets) _ c.expect.ensures _ _ c.in-Err.is

@@ -10,16 +10,16 @@ loop-c-init c = (refl, refl, refl, λ few old_l old_e old_t el ee et. going_star
 
 pub loop-c-preserved : goal.loop-c-preserved
 loop-c-preserved c = (
-  c.put_line.auto.lines ∙ c.loop-c.invariant.0,
+  c.write_record.auto.table ∙ c.loop-c.invariant.0,
   c.parse_line.auto.exprs ∙ c.loop-c.invariant.1,
   c.parse_line.auto.types ∙ c.loop-c.invariant.2,
-  λ few old_l old_e old_t el ee et. (going_read _ _ _ few _ old_l old_e old_t _ _ _ _ _ (c.loop-c.invariant.3 few old_l old_e old_t el ee et) c.loop-c-test.true _ _ _ _ _ _ _ c.parse_line.ensures c.in-Read.is c.next_number-made.ensures c.put_line.ensures).0,
+  λ few old_l old_e old_t el ee et. (going_read _ _ _ few _ old_l old_e old_t _ _ _ _ _ (c.loop-c.invariant.3 few old_l old_e old_t el ee et) c.loop-c-test.true _ _ _ _ _ _ _ c.parse_line.ensures c.in-Ok.is c.next_number-made.ensures c.write_record.ensures).0,
 )
 
 pub loop-c-smaller : goal.loop-c-smaller
 loop-c-smaller c =
     let was = c.loop-c.invariant.3 c.requires.1 _ _ _ c.clear_parsed.ensures.lines c.clear_parsed.ensures.exprs c.clear_parsed.ensures.types in
-    let g = going_read _ _ _ c.requires.1 _ _ _ _ _ _ _ _ _ was c.loop-c-test.true _ _ _ _ _ _ _ c.parse_line.ensures c.in-Read.is c.next_number-made.ensures c.put_line.ensures in
+    let g = going_read _ _ _ c.requires.1 _ _ _ _ _ _ _ _ _ was c.loop-c-test.true _ _ _ _ _ _ _ c.parse_line.ensures c.in-Ok.is c.next_number-made.ensures c.write_record.ensures in
     omega (arith, g.1, g.2)
 
 pub returns : goal.returns
@@ -28,8 +28,8 @@ returns c =
     let g = going_done _ _ _ c.requires.1 _ _ _ _ _ _ _ _ _ was c.loop-c-test.false in
     record { answer = g.0; lines = g.1; exprs = g.2; types = g.3 }
 
-pub returns-in-Refused : goal.returns-in-Refused
-returns-in-Refused c =
+pub returns-in-Err : goal.returns-in-Err
+returns-in-Err c =
     let was = c.loop-c.invariant.3 c.requires.1 _ _ _ c.clear_parsed.ensures.lines c.clear_parsed.ensures.exprs c.clear_parsed.ensures.types in
-    let g = going_stopped _ _ _ c.requires.1 _ _ _ _ _ _ _ _ _ was c.loop-c-test.true _ _ _ _ _ _ _ c.parse_line.ensures c.in-Refused.is c.clear_parsed-in-Refused.ensures.lines c.clear_parsed-in-Refused.ensures.exprs c.clear_parsed-in-Refused.ensures.types in
+    let g = going_stopped _ _ _ c.requires.1 _ _ _ _ _ _ _ _ _ was c.loop-c-test.true _ _ _ _ _ _ _ c.parse_line.ensures c.in-Err.is c.clear_parsed-in-Err.ensures.lines c.clear_parsed-in-Err.ensures.exprs c.clear_parsed-in-Err.ensures.types in
     record { answer = g.0; lines = g.1; exprs = g.2; types = g.3 }

@@ -5,8 +5,8 @@ use Rattle.checks.proofs.check_jet.Goals as goal
 
 pub returns-else-is_listed : goal.returns-else-is_listed
 unfolding jet_verdict
-returns-else-is_listed c = rw (known_listed _ _ _ _ c.lesser-at.ensures c.is_listed.ensures, c.if-is_listed.false)
+returns-else-is_listed c = rw (known_listed _ _ _ _ c.min.ensures c.is_listed.ensures, c.if-is_listed.false)
 
 pub returns-then-is_listed : goal.returns-then-is_listed
 unfolding jet_verdict
-returns-then-is_listed c = rw (known_listed _ _ _ _ c.lesser-at.ensures c.is_listed.ensures, c.if-is_listed.true)
+returns-then-is_listed c = rw (known_listed _ _ _ _ c.min.ensures c.is_listed.ensures, c.if-is_listed.true)

@@ -4,4 +4,4 @@ use Rattle.checks.proofs.push_digit.Goals as goal
 
 pub returns : goal.returns
 unfolding capped
-returns c = rw (c.lesser.ensures, c.saturating_sub.ensures)
+returns c = rw (c.min.ensures, c.saturating_sub.ensures)

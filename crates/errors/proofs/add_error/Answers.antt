@@ -10,4 +10,4 @@ returns-in_default c =
 pub returns : goal.returns
 returns c =
     let e = kind_read c.in-Some.is c.error_kind.ensures c.word-node_kind.ensures in
-    record { count = count_more _ e c.next_number-made.ensures; table = table_more _ e _ _ _ c.next_number-made.ensures c.error_at-error.ensures c.words-words.ensures c.write.ensures }
+    record { count = count_more _ e c.next_number-made.ensures; table = table_more _ e _ _ _ c.next_number-made.ensures c.error_at.ensures c.write_record.ensures }

@@ -1,9 +1,11 @@
--- `exprs::assert_right` meets its contract: by whether its expression was read. Assumes nothing.
+-- `exprs::assert_right` meets its contract: by whether its part was read. Assumes nothing.
+use mathlib.Core.Path.{◌∙◌}
+use Rattle.records.proofs.Pairs.{passed_on}
 use Rattle.exprs.proofs.Steps.{right_read, right_refused}
 use Rattle.exprs.proofs.assert_right.Goals as goal
 
-pub returns-in-Read : goal.returns-in-Read
-returns-in-Read c = right_read _ c.in-Read.is
+pub returns : goal.returns
+returns c = right_read _ c.in_ok-e.was
 
-pub returns-in-Refused : goal.returns-in-Refused
-returns-in-Refused c = right_refused _ c.in-Refused.is
+pub returns-in_err-e : goal.returns-in_err-e
+returns-in_err-e c = passed_on _ c.from_residual.ensures.1 ∙ right_refused _ c.in_err-e.was

@@ -1,9 +1,11 @@
--- `exprs::binary` meets its contract: by whether its right expression was read. Assumes nothing.
+-- `exprs::binary` meets its contract: by whether its part was read. Assumes nothing.
+use mathlib.Core.Path.{◌∙◌}
+use Rattle.records.proofs.Pairs.{passed_on}
 use Rattle.exprs.proofs.Steps.{binary_read, binary_refused}
 use Rattle.exprs.proofs.binary.Goals as goal
 
-pub returns-in-Read : goal.returns-in-Read
-returns-in-Read c = binary_read _ _ c.in-Read.is
+pub returns : goal.returns
+returns c = binary_read _ _ c.in_ok-right.was
 
-pub returns-in-Refused : goal.returns-in-Refused
-returns-in-Refused c = binary_refused _ _ c.in-Refused.is
+pub returns-in_err-right : goal.returns-in_err-right
+returns-in_err-right c = passed_on _ c.from_residual.ensures.1 ∙ binary_refused _ _ c.in_err-right.was

@@ -1,53 +1,54 @@
 -- `heads::keyword_of` meets its contract: each number by its keyword. Assumes nothing.
+use native.Mathlib.Omega.{arith}
 use mathlib.Core.Path.{refl}
 use Rattle.grammar.specs.Tree as tree
 use Rattle.heads.specs.Answers.{KeywordIs}
 use Rattle.heads.proofs.keyword_of.Goals as goal
 
-pub returns-in-15 : goal.returns-in-15
+pub returns-in-DISCONNECT : goal.returns-in-DISCONNECT
 unfolding KeywordIs
-returns-in-15 c = (tree.disconnect, c.in-15.is, refl)
+returns-in-DISCONNECT c = (tree.disconnect, omega arith, refl)
 
-pub returns-in-16 : goal.returns-in-16
+pub returns-in-CASE : goal.returns-in-CASE
 unfolding KeywordIs
-returns-in-16 c = (tree.case, c.in-16.is, refl)
+returns-in-CASE c = (tree.case, omega arith, refl)
 
-pub returns-in-17 : goal.returns-in-17
+pub returns-in-COMP : goal.returns-in-COMP
 unfolding KeywordIs
-returns-in-17 c = (tree.comp, c.in-17.is, refl)
+returns-in-COMP c = (tree.comp, omega arith, refl)
 
-pub returns-in-18 : goal.returns-in-18
+pub returns-in-PAIR : goal.returns-in-PAIR
 unfolding KeywordIs
-returns-in-18 c = (tree.pair, c.in-18.is, refl)
+returns-in-PAIR c = (tree.pair, omega arith, refl)
 
-pub returns-in-19 : goal.returns-in-19
+pub returns-in-INJ_L : goal.returns-in-INJ_L
 unfolding KeywordIs
-returns-in-19 c = (tree.injl, c.in-19.is, refl)
+returns-in-INJ_L c = (tree.injl, omega arith, refl)
 
-pub returns-in-20 : goal.returns-in-20
+pub returns-in-INJ_R : goal.returns-in-INJ_R
 unfolding KeywordIs
-returns-in-20 c = (tree.injr, c.in-20.is, refl)
+returns-in-INJ_R c = (tree.injr, omega arith, refl)
 
-pub returns-in-21 : goal.returns-in-21
+pub returns-in-TAKE : goal.returns-in-TAKE
 unfolding KeywordIs
-returns-in-21 c = (tree.take, c.in-21.is, refl)
+returns-in-TAKE c = (tree.take, omega arith, refl)
 
-pub returns-in-22 : goal.returns-in-22
+pub returns-in-DROP : goal.returns-in-DROP
 unfolding KeywordIs
-returns-in-22 c = (tree.drop, c.in-22.is, refl)
+returns-in-DROP c = (tree.drop, omega arith, refl)
 
-pub returns-in-23 : goal.returns-in-23
+pub returns-in-UNIT : goal.returns-in-UNIT
 unfolding KeywordIs
-returns-in-23 c = (tree.unit, c.in-23.is, refl)
+returns-in-UNIT c = (tree.unit, omega arith, refl)
 
-pub returns-in-24 : goal.returns-in-24
+pub returns-in-IDEN : goal.returns-in-IDEN
 unfolding KeywordIs
-returns-in-24 c = (tree.iden, c.in-24.is, refl)
+returns-in-IDEN c = (tree.iden, omega arith, refl)
 
-pub returns-in-25 : goal.returns-in-25
+pub returns-in-WITNESS : goal.returns-in-WITNESS
 unfolding KeywordIs
-returns-in-25 c = (tree.witness, c.in-25.is, refl)
+returns-in-WITNESS c = (tree.witness, omega arith, refl)
 
 pub returns-in_default : goal.returns-in_default
 unfolding KeywordIs
-returns-in_default c = c.in_default.in_default-own.rest
+returns-in_default c = (((((((((((tt, λ h. omega arith), λ h. omega arith), λ h. omega arith), λ h. omega arith), λ h. omega arith), λ h. omega arith), λ h. omega arith), λ h. omega arith), λ h. omega arith), λ h. omega arith), λ h. omega arith)

@@ -3,10 +3,10 @@ use Rattle.heads.specs.Answers.{tested_by}
 use Rattle.heads.proofs.Steps.{tested_as}
 use Rattle.heads.proofs.tested.Goals as goal
 
-pub returns-in-Fails : goal.returns-in-Fails
+pub returns-in-Err : goal.returns-in-Err
 unfolding tested_by
-returns-in-Fails c = tested_as _ _ _ _ c.in-Fails.is
+returns-in-Err c = tested_as _ _ _ _ c.in-Err.is
 
-pub returns-in-Pass : goal.returns-in-Pass
+pub returns-in-Ok : goal.returns-in-Ok
 unfolding tested_by
-returns-in-Pass c = tested_as _ _ _ _ c.in-Pass.is
+returns-in-Ok c = tested_as _ _ _ _ c.in-Ok.is

@@ -4,16 +4,16 @@ use Rattle.lex.proofs.Answers.{bad_inside, answer_short, answer_long, answer_bad
 use Rattle.lex.proofs.lex_all.Goals as goal
 
 pub overflow_cast-result : goal.overflow_cast-result
-overflow_cast-result c = omega (arith, bad_inside c.args.source.now _ _ c.check_text.ensures c.in-BadAt.is)
+overflow_cast-result c = omega (arith, bad_inside c.args.source.now _ _ c.check_text.ensures c.in-Err.is)
 
-pub returns-in-BadAt : goal.returns-in-BadAt
-returns-in-BadAt c =
-    let q = answer_bad _ _ c.if-tokens-lt-TOKEN_TABLE.false c.if-source-gt-SOURCE_LIMIT.false _ _ _ c.check_text.ensures c.in-BadAt.is c.clear_tokens-in-BadAt.ensures in
+pub returns-in-Err : goal.returns-in-Err
+returns-in-Err c =
+    let q = answer_bad _ _ c.if-tokens-lt-TOKEN_TABLE.false c.if-source-gt-SOURCE_LIMIT.false _ _ _ c.check_text.ensures c.in-Err.is c.clear_tokens-in-Err.ensures in
     record { answer = q.0; table = q.1 }
 
-pub returns-in-Valid : goal.returns-in-Valid
-returns-in-Valid c =
-    let q = answer_ended _ _ c.if-tokens-lt-TOKEN_TABLE.false c.if-source-gt-SOURCE_LIMIT.false _ _ _ c.check_text.ensures c.in-Valid.is c.lex_text.ensures.answer c.lex_text.ensures.table in
+pub returns-in-Ok : goal.returns-in-Ok
+returns-in-Ok c =
+    let q = answer_ended _ _ c.if-tokens-lt-TOKEN_TABLE.false c.if-source-gt-SOURCE_LIMIT.false _ _ _ c.check_text.ensures c.in-Ok.is c.lex_text.ensures.answer c.lex_text.ensures.table in
     record { answer = q.0; table = q.1 }
 
 pub returns-then-source-gt-SOURCE_LIMIT : goal.returns-then-source-gt-SOURCE_LIMIT

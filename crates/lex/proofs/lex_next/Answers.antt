@@ -9,7 +9,7 @@ overflow_add-result c = omega (arith, (skip_fits c.args.source.now c.args.at c.r
 pub overflow_add-result-in-Token : goal.overflow_add-result-in-Token
 overflow_add-result-in-Token c = omega (arith, (token_fits c.args.source.now c.args.at c.requires.0 _ _ (asked c.args.source.now c.args.at _ _ c.lex_one.ensures c.in-Token.is)).1)
 
-pub put_token-requires : goal.put_token-requires
-put_token-requires c =
+pub token_record-requires : goal.token_record-requires
+token_record-requires c =
     let f = token_fits c.args.source.now c.args.at c.requires.0 _ _ (asked c.args.source.now c.args.at _ _ c.lex_one.ensures c.in-Token.is) in
-    (omega arith, omega (arith, c.requires), omega (arith, f.1, c.requires))
+    (omega (arith, c.requires), omega (arith, f.1, c.requires))

@@ -1,12 +1,13 @@
 -- `lines::line_of` meets its contract: by the answer. Assumes nothing.
-use mathlib.Core.Path.{sym, ap}
+use mathlib.Core.Path.{sym, ap, ◌∙◌}
+use Rattle.records.proofs.Pairs.{passed_on}
 use Rattle.lines.specs.Answers.{line_by}
 use Rattle.lines.proofs.line_of.Goals as goal
 
-pub returns-in-Read : goal.returns-in-Read
+pub returns : goal.returns
 unfolding line_by
-returns-in-Read c = ap (line_by c.args.name c.args.expr) (sym c.in-Read.is)
+returns c = ap (line_by c.args.name c.args.expr) (sym c.in_ok-source.was)
 
-pub returns-in-Refused : goal.returns-in-Refused
+pub returns-in_err-source : goal.returns-in_err-source
 unfolding line_by
-returns-in-Refused c = ap (line_by c.args.name c.args.expr) (sym c.in-Refused.is)
+returns-in_err-source c = passed_on _ c.from_residual.ensures.1 ∙ ap (line_by c.args.name c.args.expr) (sym c.in_err-source.was)

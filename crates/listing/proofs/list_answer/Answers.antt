@@ -8,10 +8,10 @@ use Rattle.listing.proofs.Texts.{text_read, text_refused, puts_same}
 use Rattle.listing.proofs.list_answer.Goals as goal
 
 pub list_tables-requires : goal.list_tables-requires
-list_tables-requires c = subst (λ (t : List ℕ). length t ≤ listing_limit) (text_read _ _ _ _ _ _ c.in-Read.is) c.requires
+list_tables-requires c = subst (λ (t : List ℕ). length t ≤ listing_limit) (text_read _ _ _ _ _ _ c.in-Ok.is) c.requires
 
-pub returns-in-Read : goal.returns-in-Read
-returns-in-Read c = puts_same _ _ _ _ _ (text_read _ _ _ _ _ _ c.in-Read.is) c.list_tables.ensures
+pub returns-in-Ok : goal.returns-in-Ok
+returns-in-Ok c = puts_same _ _ _ _ _ (text_read _ _ _ _ _ _ c.in-Ok.is) c.list_tables.ensures
 
-pub returns-in-Refused : goal.returns-in-Refused
-returns-in-Refused c = puts_same _ _ _ _ _ (text_refused _ _ _ _ _ _ _ c.in-Refused.is c.row.ensures) c.list_refusal.ensures
+pub returns-in-Err : goal.returns-in-Err
+returns-in-Err c = puts_same _ _ _ _ _ (text_refused _ _ _ _ _ _ _ c.in-Err.is c.row.ensures) c.list_refusal.ensures

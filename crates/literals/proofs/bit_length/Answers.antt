@@ -1,16 +1,16 @@
 -- `literals::bit_length` meets its contract.
-use borrow.Author.Tests.{eq-eqb, ne_eqb}
+use mathlib.Core.Path.{sym, ◌∙◌}
 use Rattle.literals.specs.Literals.{bit_length}
 use Rattle.literals.proofs.bit_length.Goals as goal
 
 pub returns : goal.returns
 unfolding bit_length
-returns c = rw (ne_eqb _ _ c.if-kind-eq-BIN_LITERAL.false, ne_eqb _ _ c.if-kind-eq-HEX_LITERAL.false)
+returns c = rw (sym c.eq.ensures ∙ c.if-eq.false, sym c.eq-2.ensures ∙ c.if-eq-2.false)
 
-pub returns-then-kind-eq-BIN_LITERAL : goal.returns-then-kind-eq-BIN_LITERAL
+pub returns-then-eq : goal.returns-then-eq
 unfolding bit_length
-returns-then-kind-eq-BIN_LITERAL c = rw (eq-eqb _ _ c.if-kind-eq-BIN_LITERAL.true, c.saturating_sub.ensures)
+returns-then-eq c = rw (sym c.eq.ensures ∙ c.if-eq.true, c.saturating_sub.ensures)
 
-pub returns-then-kind-eq-HEX_LITERAL : goal.returns-then-kind-eq-HEX_LITERAL
+pub returns-then-eq-2 : goal.returns-then-eq-2
 unfolding bit_length
-returns-then-kind-eq-HEX_LITERAL c = rw (ne_eqb _ _ c.if-kind-eq-BIN_LITERAL.false, eq-eqb _ _ c.if-kind-eq-HEX_LITERAL.true, c.saturating_sub-then-kind-eq-HEX_LITERAL.ensures)
+returns-then-eq-2 c = rw (sym c.eq.ensures ∙ c.if-eq.false, sym c.eq-2.ensures ∙ c.if-eq-2.true, c.saturating_sub-then-eq-2.ensures)

@@ -6,4 +6,4 @@ pub returns-else-i-count : goal.returns-else-i-count
 returns-else-i-count c = bump_out _ _ _ c.if-i-count.false
 
 pub returns-then-i-count : goal.returns-then-i-count
-returns-then-i-count c = bump_in _ _ _ _ c.if-i-count.true c.node_at.ensures c.with_parent-record.ensures c.words-words.ensures c.write.ensures
+returns-then-i-count c = bump_in _ _ _ _ c.if-i-count.true c.node_at.ensures c.with_parent.ensures c.write_record.ensures

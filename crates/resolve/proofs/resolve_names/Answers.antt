@@ -3,4 +3,4 @@ use Rattle.resolve.proofs.Ends.{resolve_all}
 use Rattle.resolve.proofs.resolve_names.Goals as goal
 
 pub returns : goal.returns
-returns c = let s = c.before.before.before.before.before.before.before.before.before.before.before.before.before.before.before.before.before.before.before.before.before.before.before.before.before.before.before in resolve_all _ _ _ _ _ _ _ _ _ _ _ _ _ s.requires.1 s.requires.2 c.clear.ensures c.walk_names-made.ensures c.count_parents.ensures c.clear-2.ensures
+returns c = resolve_all _ _ _ _ _ _ _ _ _ _ _ _ _ c.requires.1 c.requires.2 c.clear.ensures c.walk_names-made.ensures c.count_parents.ensures c.clear-2.ensures

@@ -19,10 +19,7 @@ decreases-parse_type l = l.depth + l.depth
 abbrev pub decreases-parse_type_atom : goal.decreases-parse_type_atom
 decreases-parse_type_atom l = l.depth + l.depth + 1
 
-abbrev pub invariant-parse_type-loop-turns : goal.invariant-parse_type-loop-turns
-invariant-parse_type-loop-turns l =
+abbrev pub invariant-parse_type-loop-turn : goal.invariant-parse_type-loop-turn
+invariant-parse_type-loop-turn l =
     (length l.types ≡ length l.initial.types)
-    × ((jets old : List ℕ) (c : Cursor) (ready : Ready l.count c) (W : Parsed Ty) → Going (checks_of jets) (l.depth - 1) l.source l.tokens l.count c ready W 0 l.initial.p old l.initial.types → Going (checks_of jets) (l.depth - 1) l.source l.tokens l.count c ready W l.turns l.p old l.types)
-
-abbrev pub decreases-parse_type-loop-turns : goal.decreases-parse_type-loop-turns
-decreases-parse_type-loop-turns l = l.count - l.turns
+    × ((jets old : List ℕ) (c : Cursor) (ready : Ready l.tokens.count c) (W : Parsed Ty) → Going (checks_of jets) (l.depth - 1) l.tokens.source.now l.tokens.table.now l.tokens.count c ready W 0 l.initial.p old l.initial.types → Going (checks_of jets) (l.depth - 1) l.tokens.source.now l.tokens.table.now l.tokens.count c ready W l._turn l.p old l.types)

@@ -2,5 +2,5 @@
 use Rattle.types.proofs.Steps.{head_next}
 use Rattle.types.proofs.type_head.Goals as goal
 
-pub returns-in-Next : goal.returns-in-Next
-returns-in-Next c = head_next _ _ _ _ _ c.peek.ensures _ _ _ c.in-Next.is c.head_of.ensures
+pub returns-in-Some : goal.returns-in-Some
+returns-in-Some c = head_next _ _ _ _ _ c.peek.ensures _ _ _ c.in-Some.is c.head_of.ensures
