@@ -13,7 +13,8 @@ use borrow.Author.Tests.{eqb-true, eqb-false, ltb-true, ltb-false, le-leb}
 use Rattle.records.specs.Base.{bytes, within}
 use Rattle.records.specs.Limits.{record_limit}
 use Rattle.records.proofs.Choices.{and_left, and_right}
-use Rattle.tables.specs.Tables.{record_at, word_at}
+use Rattle.records.specs.declared.Span.{Span}
+use Rattle.tables.specs.Tables.{record_at, word_at, span_at}
 use Rattle.checks.specs.Jets.{same}
 use Rattle.literals.specs.Literals.{span_text}
 use Rattle.checks.proofs.Jets.{same_equal}
@@ -73,10 +74,9 @@ module _ (words places : List ℕ) (ws : List String) where
         go false e = same_equal _ _ (below (suc (length ws)) test tested k (omega (arith, ltb-false (length ws) k e)))
 
 -- a word by its number
-pub word_no_law : (words places : List ℕ) (n : ℕ) {a l : ℕ} {t : List ℕ} → a ≡ word_at 2 places n 0 → l ≡ word_at 2 places n 1
-    → t ≡ span_text words (record { start = record { 0 = a }; len = l }) → ended (word_no words places n) 32 ≡ ended t 32
+pub word_no_law : (words places : List ℕ) (n : ℕ) {s : Span} {t : List ℕ} → s ≡ span_at 2 places n 0 → t ≡ span_text words s → ended (word_no words places n) 32 ≡ ended t 32
 unfolding word_no
-word_no_law words places n ea el et = rw (et, ea, el)
+word_no_law words places n es et = rw (et, es)
 
 -- the words of the kinds of nodes, and where each stands
 abbrev pub node_text : List ℕ

@@ -7,8 +7,9 @@ use lib.Dec.{eqb, leb}
 use lib.ListN.{length}
 use Rattle.records.specs.Base.{bytes}
 use Rattle.records.specs.Limits.{node_width, error_width}
+use Rattle.records.specs.declared.Span.{Span}
 use Rattle.records.specs.declared.refusals.Refusal.{Refusal}
-use Rattle.tables.specs.Tables.{word_at}
+use Rattle.tables.specs.Tables.{word_at, span_at}
 use Rattle.text.specs.Place.{position_of}
 use Rattle.literals.specs.Literals.{span_text}
 use Rattle.access.specs.Access.{name_text_of, is_root_at}
@@ -61,11 +62,11 @@ module _ (source names : List ℕ) (named : ℕ) (nodes : List ℕ) (made i : �
 
 module _ (source errors : List ℕ) (i : ℕ) where
   -- kind, place, name
-  pub error_pieces : {k s a l : ℕ} {t : List ℕ} → k ≡ word_at error_width errors i 0 → s ≡ word_at error_width errors i 1 → a ≡ word_at error_width errors i 2 → l ≡ word_at error_width errors i 3
-      → t ≡ span_text source (record { start = record { 0 = a }; len = l })
+  pub error_pieces : {k s : ℕ} {n : Span} {t : List ℕ} → k ≡ word_at error_width errors i 0 → s ≡ word_at error_width errors i 1 → n ≡ span_at error_width errors i 2
+      → t ≡ span_text source n
       → error_row_at source errors i ≡ ended (error_word k) 32 then ended (place_word (position_of source s)) 32 then ended t 10
   unfolding error_row_at error_row printed_row ◌then◌
-  error_pieces ek es ea el et = rw (et, ek, es, ea, el) (simp append_assoc)
+  error_pieces ek es en et = rw (et, ek, es, en) (simp append_assoc)
 
 -- ---- refusals
 

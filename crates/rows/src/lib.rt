@@ -9,9 +9,19 @@ ghost use Rattle.rows.specs.Rows.{node_word, error_word, name_word, refused_plac
 ghost use Rattle.rows.specs.Words.{◌then◌, ended, Room, word_no, rows_from, MayPut, PutsRows, count_from, value_end, node_row_at, nodes_at, root_row_at, roots_at, error_row_at, errors_at, listed_at};
 
 use records::kinds::{ErrorKind, NodeKind};
-use records::numbers::{ByteOffset, NameNo};
+use records::numbers::NameNo;
 use records::refusals::Refusal;
-use records::{ErrorRecord, NodeRecord, Span};
+use records::{ErrorRecord, NodeRecord};
+
+// What is listed: the tables of names and nodes of a source, so many of each.
+#[derive(Clone, Copy)]
+struct Listed<'a> {
+    source: &'a [u8],
+    names: &'a [u32],
+    named: u32,
+    nodes: &'a [u32],
+    made: u32,
+}
 
 // Writes a word and the byte behind it.
 fn put_word(out: &mut [u8], at: usize, word: &[u8], end: u8) -> usize
@@ -48,10 +58,7 @@ fn put_word_no(out: &mut [u8], at: usize, words: &[u8], places: &[u32], number: 
     requires { Room at (ended (word_no words.now places.now number) 32) }
     ensures { Puts (ended (word_no words.now places.now number) 32) out.old at out.new result }
 {
-    let span = Span {
-        start: ByteOffset(tables::word(places, PLACE_WORDS, number, 0)),
-        len: tables::word(places, PLACE_WORDS, number, 1),
-    };
+    let span = tables::span(places, PLACE_WORDS, number, 0);
     put_word(out, at, cursor::span_text(words, span), b' ')
 }
 
@@ -114,19 +121,17 @@ fn put_name(
 fn put_node_front(
     out: &mut [u8],
     at: usize,
-    source: &[u8],
-    names: &[u32],
-    named: u32,
+    listed: Listed,
     number: u32,
     kind: NodeKind,
     name: NameNo,
 ) -> usize
-    requires { Room at (ended (decimal number) 32 then ended (node_word kind.0) 32 then ended (name_word (name_text_of source.now names.now named) name.0) 32) }
-    ensures { Puts (ended (decimal number) 32 then ended (node_word kind.0) 32 then ended (name_word (name_text_of source.now names.now named) name.0) 32) out.old at out.new result }
+    requires { Room at (ended (decimal number) 32 then ended (node_word kind.0) 32 then ended (name_word (name_text_of listed.source.now listed.names.now listed.named) name.0) 32) }
+    ensures { Puts (ended (decimal number) 32 then ended (node_word kind.0) 32 then ended (name_word (name_text_of listed.entry.source.now listed.entry.names.now listed.entry.named) name.0) 32) out.old at out.new result }
 {
     let at = put_number(out, at, number, b' ');
     let at = put_node_kind(out, at, kind);
-    put_name(out, at, source, names, named, name)
+    put_name(out, at, listed.source, listed.names, listed.named, name)
 }
 
 // Writes the back of a node's row: place, left, right.
@@ -147,34 +152,18 @@ fn put_node_back(
 }
 
 // Writes the row of a node.
-fn put_node(
-    out: &mut [u8],
-    at: usize,
-    source: &[u8],
-    names: &[u32],
-    named: u32,
-    nodes: &[u32],
-    number: u32,
-) -> usize
-    requires { Room at (node_row_at source.now names.now named nodes.now number) }
-    ensures { Puts (node_row_at source.now names.now named nodes.now number) out.old at out.new result }
+fn put_node(out: &mut [u8], at: usize, listed: Listed, number: u32) -> usize
+    requires { Room at (node_row_at listed.source.now listed.names.now listed.named listed.nodes.now number) }
+    ensures { Puts (node_row_at listed.entry.source.now listed.entry.names.now listed.entry.named listed.entry.nodes.now number) out.old at out.new result }
 {
+    let nodes = listed.nodes;
     let kind = tables::word(nodes, NodeRecord::WORDS, number, NodeRecord::KIND);
     let start = tables::word(nodes, NodeRecord::WORDS, number, NodeRecord::START);
     let name = tables::word(nodes, NodeRecord::WORDS, number, NodeRecord::NAME);
     let left = tables::word(nodes, NodeRecord::WORDS, number, NodeRecord::LEFT);
     let right = tables::word(nodes, NodeRecord::WORDS, number, NodeRecord::RIGHT);
-    let at = put_node_front(
-        out,
-        at,
-        source,
-        names,
-        named,
-        number,
-        NodeKind(kind),
-        NameNo(name),
-    );
-    put_node_back(out, at, source, start, left, right)
+    let at = put_node_front(out, at, listed, number, NodeKind(kind), NameNo(name));
+    put_node_back(out, at, listed.source, start, left, right)
 }
 
 // Writes the row of an error.
@@ -184,41 +173,20 @@ fn put_error(out: &mut [u8], at: usize, source: &[u8], errors: &[u32], number: u
 {
     let kind = tables::word(errors, ErrorRecord::WORDS, number, ErrorRecord::KIND);
     let start = tables::word(errors, ErrorRecord::WORDS, number, ErrorRecord::START);
-    let name = Span {
-        start: ByteOffset(tables::word(
-            errors,
-            ErrorRecord::WORDS,
-            number,
-            ErrorRecord::NAME_START,
-        )),
-        len: tables::word(errors, ErrorRecord::WORDS, number, ErrorRecord::NAME_LEN),
-    };
+    let name = tables::span(errors, ErrorRecord::WORDS, number, ErrorRecord::NAME_START);
     let at = put_error_kind(out, at, ErrorKind(kind));
     let at = put_offset(out, at, source, start);
     put_word(out, at, cursor::span_text(source, name), b'\n')
 }
 
 // Writes the row of a name, if it is a root.
-fn put_root(
-    out: &mut [u8],
-    at: usize,
-    source: &[u8],
-    names: &[u32],
-    named: u32,
-    nodes: &[u32],
-    made: u32,
-    name: NameNo,
-) -> usize
-    requires { Room at (root_row_at source.now names.now named nodes.now made name.0) }
-    ensures { Puts (root_row_at source.now names.now named nodes.now made name.0) out.old at out.new result }
+fn put_root(out: &mut [u8], at: usize, listed: Listed, name: NameNo) -> usize
+    requires { Room at (root_row_at listed.source.now listed.names.now listed.named listed.nodes.now listed.made name.0) }
+    ensures { Puts (root_row_at listed.entry.source.now listed.entry.names.now listed.entry.named listed.entry.nodes.now listed.entry.made name.0) out.old at out.new result }
 {
-    if access::is_root(names, named, nodes, made, name) {
-        return put_word(
-            out,
-            at,
-            access::name_text(source, names, named, name),
-            b'\n',
-        );
+    if access::is_root(listed.names, listed.named, listed.nodes, listed.made, name) {
+        let text = access::name_text(listed.source, listed.names, listed.named, name);
+        return put_word(out, at, text, b'\n');
     }
     at
 }
@@ -268,13 +236,19 @@ fn put_rows<F: Fn(&mut [u8], usize, u32) -> usize>(
 }
 
 // How many names are roots.
-fn count_roots(names: &[u32], named: u32, nodes: &[u32], made: u32) -> u32
-    ensures { result ≡ count_from (is_root_at names.now named nodes.now made) named 1 }
+fn count_roots(listed: Listed) -> u32
+    ensures { result ≡ count_from (is_root_at listed.entry.names.now listed.entry.named listed.entry.nodes.now listed.entry.made) listed.entry.named 1 }
 {
     // A `for`, since nothing says which numbers a chain over `1..=named` yields.
     let mut count = 0;
-    for number in 1..=named {
-        if access::is_root(names, named, nodes, made, NameNo(number)) {
+    for number in 1..=listed.named {
+        if access::is_root(
+            listed.names,
+            listed.named,
+            listed.nodes,
+            listed.made,
+            NameNo(number),
+        ) {
             count += 1;
         }
     }
@@ -291,41 +265,25 @@ fn put_head(out: &mut [u8], at: usize, word: &[u8], count: u32) -> usize
 }
 
 // Writes the count of the nodes, and their rows.
-fn put_nodes(
-    out: &mut [u8],
-    at: usize,
-    source: &[u8],
-    names: &[u32],
-    named: u32,
-    nodes: &[u32],
-    made: u32,
-) -> usize
-    requires { Room at (nodes_at source.now names.now named nodes.now made) }
-    ensures { Puts (nodes_at source.now names.now named nodes.now made) out.old at out.new result }
+fn put_nodes(out: &mut [u8], at: usize, listed: Listed) -> usize
+    requires { Room at (nodes_at listed.source.now listed.names.now listed.named listed.nodes.now listed.made) }
+    ensures { Puts (nodes_at listed.entry.source.now listed.entry.names.now listed.entry.named listed.entry.nodes.now listed.entry.made) out.old at out.new result }
 {
-    let at = put_head(out, at, b"nodes", made);
-    put_rows(out, at, made, |out, at, number| {
-        put_node(out, at, source, names, named, nodes, number)
+    let at = put_head(out, at, b"nodes", listed.made);
+    put_rows(out, at, listed.made, |out, at, number| {
+        put_node(out, at, listed, number)
     })
 }
 
 // Writes the count of the roots, and their rows.
-fn put_roots(
-    out: &mut [u8],
-    at: usize,
-    source: &[u8],
-    names: &[u32],
-    named: u32,
-    nodes: &[u32],
-    made: u32,
-) -> usize
-    requires { Room at (roots_at source.now names.now named nodes.now made) }
-    ensures { Puts (roots_at source.now names.now named nodes.now made) out.old at out.new result }
+fn put_roots(out: &mut [u8], at: usize, listed: Listed) -> usize
+    requires { Room at (roots_at listed.source.now listed.names.now listed.named listed.nodes.now listed.made) }
+    ensures { Puts (roots_at listed.entry.source.now listed.entry.names.now listed.entry.named listed.entry.nodes.now listed.entry.made) out.old at out.new result }
 {
-    let count = count_roots(names, named, nodes, made);
+    let count = count_roots(listed);
     let at = put_head(out, at, b"roots", count);
-    put_rows(out, at, named, |out, at, number| {
-        put_root(out, at, source, names, named, nodes, made, NameNo(number))
+    put_rows(out, at, listed.named, |out, at, number| {
+        put_root(out, at, listed, NameNo(number))
     })
 }
 
@@ -354,8 +312,15 @@ pub fn list_tables(
     requires { length (listed_at source.now names.now name_count nodes.now node_count errors.now error_count) ≤ listing_limit }
     ensures { Puts (listed_at source.now names.now name_count nodes.now node_count errors.now error_count) out.old 0 out.new result }
 {
-    let at = put_nodes(out, 0, source, names, name_count, nodes, node_count);
-    let at = put_roots(out, at, source, names, name_count, nodes, node_count);
+    let listed = Listed {
+        source,
+        names,
+        named: name_count,
+        nodes,
+        made: node_count,
+    };
+    let at = put_nodes(out, 0, listed);
+    let at = put_roots(out, at, listed);
     put_errors(out, at, source, errors, error_count)
 }
 

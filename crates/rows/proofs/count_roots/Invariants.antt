@@ -4,4 +4,4 @@ use Rattle.rows.proofs.Many.{CountLeft}
 use Rattle.rows.proofs.count_roots.Given as goal
 
 abbrev pub invariant-loop-number : goal.invariant-loop-number
-invariant-loop-number l = CountLeft (is_root_at l.names l.named l.nodes l.made) l.named l.number l.count
+invariant-loop-number l = CountLeft (is_root_at l.listed.names.now l.listed.named l.listed.nodes.now l.listed.made) l.listed.named l.number l.count
