@@ -9,7 +9,7 @@ ghost use Rattle.errors.specs.Code.{error_kind, error_of_node, count_after, tabl
 
 use records::kinds::{ErrorKind, NodeKind};
 use records::numbers::{ByteOffset, NodeNo};
-use records::{ErrorRecord, NodeRecord, Span};
+use records::{ErrorRecord, NodeRecord};
 
 // The kind of the error that a node of this kind gives, if it gives one.
 fn error_kind(kind: NodeKind) -> Option<ErrorKind>
@@ -32,10 +32,7 @@ fn error_at(nodes: &[u32], number: NodeNo, kind: ErrorKind) -> ErrorRecord
     ErrorRecord {
         kind,
         start: ByteOffset(tables::word(nodes, NodeRecord::WORDS, n, NodeRecord::START)),
-        name: Span {
-            start: ByteOffset(tables::word(nodes, NodeRecord::WORDS, n, NodeRecord::SPAN_START)),
-            len: tables::word(nodes, NodeRecord::WORDS, n, NodeRecord::SPAN_LEN),
-        },
+        name: tables::span(nodes, NodeRecord::WORDS, n, NodeRecord::SPAN_START),
     }
 }
 

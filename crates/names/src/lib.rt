@@ -95,6 +95,7 @@ fn name_entry(
 }
 
 // What the line of this number does.
+#[tactic(auto, unfolding(crate::specs::Code::line_entry))]
 fn line_entry(
     source: &[u8],
     lines: &[u32],
@@ -106,10 +107,7 @@ fn line_entry(
     ensures { result ≡ line_entry source.now lines.now exprs.now names.now count number.0 }
 {
     let i = number.0;
-    let name = Span {
-        start: ByteOffset(tables::word(lines, LineRecord::WORDS, i, LineRecord::NAME_START)),
-        len: tables::word(lines, LineRecord::WORDS, i, LineRecord::NAME_LEN),
-    };
+    let name = tables::span(lines, LineRecord::WORDS, i, LineRecord::NAME_START);
     let expr = tables::word(lines, LineRecord::WORDS, i, LineRecord::EXPR);
     name_entry(source, exprs, names, count, name, ExprNo(expr))
 }

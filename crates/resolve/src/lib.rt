@@ -62,6 +62,14 @@ impl Status {
     pub const BEGUN: u32 = 4294967295;
 }
 
+// What is walked and not changed: the expressions of a source, and how many names there are.
+#[derive(Clone, Copy)]
+struct Program<'a> {
+    source: &'a [u8],
+    exprs: &'a [u32],
+    count: u32,
+}
+
 // The next step of a walk: down into an expression, which is the outermost one of the name if that is not 0, or up with the node
 // that was made last.
 #[derive(Clone, Copy)]
@@ -98,19 +106,15 @@ fn item_at(work: &[u32], number: WorkNo) -> StackItem
 fn expr_span(exprs: &[u32], expr: ExprNo) -> Span
     ensures { result ≡ span_at expr_width exprs.now expr.0 4 }
 {
-    let e = expr.0;
-    Span {
-        start: ByteOffset(tables::word(exprs, ExprRecord::WORDS, e, ExprRecord::SPAN_START)),
-        len: tables::word(exprs, ExprRecord::WORDS, e, ExprRecord::SPAN_LEN),
-    }
+    tables::span(exprs, ExprRecord::WORDS, expr.0, ExprRecord::SPAN_START)
 }
 
 // The name that a reference uses; 0 if that has no legal line.
-fn used_name(source: &[u8], exprs: &[u32], names: &[u32], count: u32, expr: ExprNo) -> NameNo
-    ensures { result.0 ≡ used_in source.now exprs.now names.now count expr.0 }
+fn used_name(program: Program, names: &[u32], expr: ExprNo) -> NameNo
+    ensures { result.0 ≡ used_in program.entry.source.now program.entry.exprs.now names.now program.entry.count expr.0 }
 {
-    let text = cursor::span_text(source, expr_span(exprs, expr));
-    symbols::find_name(source, names, count, text)
+    let text = cursor::span_text(program.source, expr_span(program.exprs, expr));
+    symbols::find_name(program.source, names, program.count, text)
 }
 
 // The kind of an expression's node; a name that has no expression has an incomplete node.
@@ -237,18 +241,16 @@ fn coming_up(node: NodeNo, waiting: u32, made: u32) -> Walker
 
 // A turn at a reference: begins its name if that is fresh, else makes the reference's node.
 fn refer(
-    source: &[u8],
-    exprs: &[u32],
+    program: Program,
     names: &mut [u32],
-    count: u32,
     nodes: &mut [u32],
     work: &mut [u32],
     expr: ExprNo,
     name: NameNo,
     g: Walker,
 ) -> Walker
-    ensures { g.step ≡ Step.Down expr name → word_at expr_width exprs.now expr.0 0 ≡ node.number node.ref
-        → Turns source.now exprs.now count g names.old nodes.old work.old result names.new nodes.new work.new }
+    ensures { g.step ≡ Step.Down expr name → word_at expr_width program.entry.exprs.now expr.0 0 ≡ node.number node.ref
+        → Turns program.entry.source.now program.entry.exprs.now program.entry.count g names.old nodes.old work.old result names.new nodes.new work.new }
 {
     let item = StackItem {
         expr,
@@ -256,7 +258,7 @@ fn refer(
         waits: StackItem::FOR_NAME,
         right: NodeNo(0),
     };
-    let used = used_name(source, exprs, names, count, expr);
+    let used = used_name(program, names, expr);
     let status = tables::word(names, NameRecord::WORDS, used.0, NameRecord::NODE);
     if is_fresh(used.0, status) {
         let number = cursor::next_number(g.waiting);
@@ -266,7 +268,15 @@ fn refer(
     }
     let left = finished_node(status);
     let kind = reference_kind(left);
-    make_node(exprs, names, nodes, g.made, kind, item, NodeNo(left));
+    make_node(
+        program.exprs,
+        names,
+        nodes,
+        g.made,
+        kind,
+        item,
+        NodeNo(left),
+    );
     let number = cursor::next_number(g.made);
     coming_up(NodeNo(number), g.waiting, number)
 }
@@ -296,40 +306,36 @@ fn one_done(g: Walker) -> Walker
 
 // A turn that comes up to an item: the left child is next, or the item's node is made, once its name is finished if it uses one.
 fn come_up(
-    source: &[u8],
-    exprs: &[u32],
+    program: Program,
     names: &mut [u32],
-    count: u32,
     nodes: &mut [u32],
     work: &mut [u32],
     node: NodeNo,
     g: Walker,
 ) -> Walker
     ensures { g.step ≡ Step.Up node → 1 ≤ g.waiting
-        → Turns source.now exprs.now count g names.old nodes.old work.old result names.new nodes.new work.new }
+        → Turns program.entry.source.now program.entry.exprs.now program.entry.count g names.old nodes.old work.old result names.new nodes.new work.new }
 {
     let item = item_at(work, WorkNo(g.waiting));
     if item.waits == StackItem::FOR_RIGHT {
-        return turn_left(exprs, work, item, node, g);
+        return turn_left(program.exprs, work, item, node, g);
     }
     if item.waits == StackItem::FOR_LEFT {
-        let kind = node_kind(exprs, item.expr);
-        make_node(exprs, names, nodes, g.made, kind, item, node);
+        let kind = node_kind(program.exprs, item.expr);
+        make_node(program.exprs, names, nodes, g.made, kind, item, node);
         return one_done(g);
     }
-    let used = used_name(source, exprs, names, count, item.expr);
+    let used = used_name(program, names, item.expr);
     set_node(names, used, node);
     let kind = NodeKind::REFERENCE;
-    make_node(exprs, names, nodes, g.made, kind, item, node);
+    make_node(program.exprs, names, nodes, g.made, kind, item, node);
     one_done(g)
 }
 
 // A turn that goes down: passes an absent child, turns to a reference, or lets a part wait for its right child.
 fn go_down(
-    source: &[u8],
-    exprs: &[u32],
+    program: Program,
     names: &mut [u32],
-    count: u32,
     nodes: &mut [u32],
     work: &mut [u32],
     expr: ExprNo,
@@ -337,14 +343,14 @@ fn go_down(
     g: Walker,
 ) -> Walker
     ensures { g.step ≡ Step.Down expr name
-        → Turns source.now exprs.now count g names.old nodes.old work.old result names.new nodes.new work.new }
+        → Turns program.entry.source.now program.entry.exprs.now program.entry.count g names.old nodes.old work.old result names.new nodes.new work.new }
 {
     if (expr.0 == 0) & (name.0 == 0) {
         return coming_up(NodeNo(0), g.waiting, g.made);
     }
-    let kind = tables::word(exprs, ExprRecord::WORDS, expr.0, ExprRecord::KIND);
+    let kind = tables::word(program.exprs, ExprRecord::WORDS, expr.0, ExprRecord::KIND);
     if NodeKind(kind) == NodeKind::REFERENCE {
-        return refer(source, exprs, names, count, nodes, work, expr, name, g);
+        return refer(program, names, nodes, work, expr, name, g);
     }
     let number = cursor::next_number(g.waiting);
     let item = StackItem {
@@ -354,7 +360,7 @@ fn go_down(
         right: NodeNo(0),
     };
     tables::write_record(work, number, item);
-    let right = tables::word(exprs, ExprRecord::WORDS, expr.0, ExprRecord::RIGHT);
+    let right = tables::word(program.exprs, ExprRecord::WORDS, expr.0, ExprRecord::RIGHT);
     going_down(ExprNo(right), NameNo(0), number, g.made)
 }
 
@@ -370,43 +376,37 @@ fn is_running(g: Walker) -> bool
 
 // One turn.
 fn turn(
-    source: &[u8],
-    exprs: &[u32],
+    program: Program,
     names: &mut [u32],
-    count: u32,
     nodes: &mut [u32],
     work: &mut [u32],
     g: Walker,
 ) -> Walker
     ensures { is_running g ≡ true
-        → Turns source.now exprs.now count g names.old nodes.old work.old result names.new nodes.new work.new }
+        → Turns program.entry.source.now program.entry.exprs.now program.entry.count g names.old nodes.old work.old result names.new nodes.new work.new }
 {
     match g.step {
-        Step::Down(expr, name) => {
-            go_down(source, exprs, names, count, nodes, work, expr, name, g)
-        }
-        Step::Up(node) => come_up(source, exprs, names, count, nodes, work, node, g),
+        Step::Down(expr, name) => { go_down(program, names, nodes, work, expr, name, g) }
+        Step::Up(node) => come_up(program, names, nodes, work, node, g),
     }
 }
 
 // All the turns.
 fn run(
-    source: &[u8],
-    exprs: &[u32],
+    program: Program,
     names: &mut [u32],
-    count: u32,
     nodes: &mut [u32],
     work: &mut [u32],
     g: Walker,
 ) -> Walker
-    ensures { Runs source.now exprs.now count g names.old nodes.old work.old result names.new nodes.new work.new }
+    ensures { Runs program.entry.source.now program.entry.exprs.now program.entry.count g names.old nodes.old work.old result names.new nodes.new work.new }
 {
     let mut h = g;
     for _ in 0..TURNS {
         if !is_running(h) {
             break;
         }
-        h = turn(source, exprs, names, count, nodes, work, h);
+        h = turn(program, names, nodes, work, h);
     }
     h
 }
@@ -423,22 +423,20 @@ fn last_node(g: Walker) -> NodeNo
 
 // Finishes a name if it is fresh. Returns how many nodes are made then.
 fn visit(
-    source: &[u8],
-    exprs: &[u32],
+    program: Program,
     names: &mut [u32],
-    count: u32,
     nodes: &mut [u32],
     work: &mut [u32],
     n: u32,
     made: u32,
 ) -> u32
-    ensures { Visits source.now exprs.now count n made names.old nodes.old work.old result names.new nodes.new work.new }
+    ensures { Visits program.entry.source.now program.entry.exprs.now program.entry.count n made names.old nodes.old work.old result names.new nodes.new work.new }
 {
     let status = tables::word(names, NameRecord::WORDS, n, NameRecord::NODE);
     if is_fresh(n, status) {
         let first = begin_name(names, NameNo(n));
         let g = going_down(first, NameNo(n), 0, made);
-        let h = run(source, exprs, names, count, nodes, work, g);
+        let h = run(program, names, nodes, work, g);
         set_node(names, NameNo(n), last_node(h));
         return h.made;
     }
@@ -446,19 +444,12 @@ fn visit(
 }
 
 // Walks the names in order, each that is not yet begun. Returns how many nodes are made.
-fn walk_names(
-    source: &[u8],
-    exprs: &[u32],
-    names: &mut [u32],
-    count: u32,
-    nodes: &mut [u32],
-    work: &mut [u32],
-) -> u32
-    ensures { VisitsTo source.now exprs.now count count names.old nodes.old work.old result names.new nodes.new work.new }
+fn walk_names(program: Program, names: &mut [u32], nodes: &mut [u32], work: &mut [u32]) -> u32
+    ensures { VisitsTo program.entry.source.now program.entry.exprs.now program.entry.count program.entry.count names.old nodes.old work.old result names.new nodes.new work.new }
 {
     let mut made = 0;
-    for number in 1..=count {
-        made = visit(source, exprs, names, count, nodes, work, number, made);
+    for number in 1..=program.count {
+        made = visit(program, names, nodes, work, number, made);
     }
     made
 }
@@ -473,10 +464,7 @@ fn node_at(nodes: &[u32], n: u32) -> NodeRecord
         name: NameNo(tables::word(nodes, NodeRecord::WORDS, n, NodeRecord::NAME)),
         left: NodeNo(tables::word(nodes, NodeRecord::WORDS, n, NodeRecord::LEFT)),
         right: NodeNo(tables::word(nodes, NodeRecord::WORDS, n, NodeRecord::RIGHT)),
-        span: Span {
-            start: ByteOffset(tables::word(nodes, NodeRecord::WORDS, n, NodeRecord::SPAN_START)),
-            len: tables::word(nodes, NodeRecord::WORDS, n, NodeRecord::SPAN_LEN),
-        },
+        span: tables::span(nodes, NodeRecord::WORDS, n, NodeRecord::SPAN_START),
         in_degree: tables::word(nodes, NodeRecord::WORDS, n, NodeRecord::IN_DEGREE),
     }
 }
@@ -526,7 +514,12 @@ pub fn resolve_names(
     ensures { (ls : List Line) → HeldNames source.now exprs.now names.old count ls → Resolved ls result names.old names.new nodes.old nodes.new work.old work.new }
 {
     tables::clear(nodes, NodeRecord::WORDS);
-    let made = walk_names(source, exprs, names, count, nodes, work);
+    let program = Program {
+        source,
+        exprs,
+        count,
+    };
+    let made = walk_names(program, names, nodes, work);
     count_parents(nodes, made);
     tables::clear(work, WorkRecord::WORDS);
     made
