@@ -12,6 +12,7 @@ use records::numbers::{ByteOffset, NodeNo};
 use records::{ErrorRecord, NodeRecord};
 
 // The kind of the error that a node of this kind gives, if it gives one.
+#[tactic(auto, unfolding(crate::specs::Code::error_kind))]
 fn error_kind(kind: NodeKind) -> Option<ErrorKind>
     ensures { result ≡ error_kind kind.0 }
 {

@@ -17,7 +17,6 @@ use Rattle.names.specs.Held.{Held, HeldLines, Entered}
 use Rattle.names.specs.Code.{name_entry, line_entry, Enters}
 use Rattle.names.specs.declared.NameCounts.{NameCounts}
 use Rattle.names.specs.declared.Entry.{Entry}
-use Rattle.names.proofs.Steps.{line_words_law}
 use Rattle.tables.proofs.Reading.{table_reads}
 use Rattle.names.proofs.Reading.{line_row}
 use Rattle.names.proofs.Entering.{Going, going_more}
@@ -37,13 +36,13 @@ module _ (source lines exprs old_n old_e : List ℕ) (count : ℕ) (ls : List Li
 
   -- the words of the line behind `done`
   line_entry_law : (done rest : List Line) (l : Line) → ls ≡ done ++ (l ∷ rest) → (ns : List ℕ) (n : ℕ) → name_entry source exprs ns n (span_of l.name) (part_no (line_part l) (total exprs_of done)) ≡ line_entry source lines exprs ns n (suc (length done))
-  unfolding line_record
+  unfolding line_record line_entry
   line_entry_law done rest l e ns n =
       let fits : length (line_rows ls) ≤ record_limit = omega (arith, h.held.room, length-map (line_records ls 0 0) line_words, line_records_law ls 0 0) in
       let word : (j : ℕ) → word_at line_width lines (suc (length done)) j ≡ get_or (line_words (line_record l (total exprs_of done) (total types_in_line done))) j 0 =
       λ j. ap (λ (q : List ℕ). word_at line_width q (suc (length done)) j) h.table ∙ table_reads line_width h.old (wide_map line_width line_words (λ a. refl) (line_records ls 0 0)) fits (length done) j
       ∙ ap (λ (ks : List Line). get_or (get_or (line_rows ks) (length done) []) j 0) e ∙ ap (λ (r : List ℕ). get_or r j 0) (line_row done rest l) in
-      line_words_law source lines exprs ns n (suc (length done)) _ _ _ _ (sym (word 0)) (sym (word 1)) (sym (word 2)) refl
+      rw (word 0, word 1, word 2)
 
   pub so_far_more : (i : ℕ) (c r : NameCounts) (ns ns' es es' : List ℕ) → i ≤ count → SoFar old_n old_e ls i c ns es → Enters (line_entry source lines exprs ns c.names i) c r ns ns' es es' → SoFar old_n old_e ls (i + 1) r ns' es'
   so_far_more i c r ns ns' es es' below s w = go s.rest s.whole

@@ -4,7 +4,7 @@ use mathlib.Core.Bool.{Bool, true, false}
 use mathlib.Core.Path.{◌≡◌, sym, ◌∙◌}
 use mathlib.Core.List.{List}
 use borrow.Author.Tests.{eq-eqb, ne_eqb}
-use Rattle.records.specs.Limits.{line_width, expr_width, name_width}
+use Rattle.records.specs.Limits.{expr_width, name_width}
 use Rattle.records.specs.ErrorKind as error
 use Rattle.records.specs.declared.Span.{Span}
 use Rattle.tables.specs.Tables.{word_at, span_at}
@@ -13,7 +13,7 @@ use Rattle.symbols.specs.Symbols.{Text, illegal, find_from}
 use Rattle.symbols.specs.Texts.{texts_from}
 use Rattle.names.specs.declared.Entry.{Entry}
 use Rattle.names.specs.declared.Entry.TheVariants.{New, Known, Wrong, Nothing}
-use Rattle.names.specs.Code.{name_of, error_of, known_entry, legal_entry, name_entry, line_entry}
+use Rattle.names.specs.Code.{name_of, error_of, known_entry, legal_entry, name_entry}
 
 module _ (exprs names : List ℕ) (k : ℕ) (s : Span) (e : ℕ) where
   pub known_first : (w : ℕ) (t : Span) → w ≡ word_at name_width names k 2 → w ≡ 0 → t ≡ span_at name_width names k 0 → Known (record { 0 = k }) (name_of t e) ≡ known_entry exprs names k s e
@@ -44,7 +44,3 @@ module _ (source exprs names : List ℕ) (n : ℕ) (s : Span) (e : ℕ) (x : Tex
   pub name_legal : (k : ℕ) (r : Entry) → b ≡ false → k ≡ find_from 1 (texts_from source names 1 n) x → r ≡ legal_entry exprs names k s e → r ≡ name_entry source exprs names n s e
   unfolding name_entry
   name_legal k r t ek er = er ∙ rw (← ex, ← eb, t, ek)
-
-pub line_words_law : (source lines exprs names : List ℕ) (n i a b e : ℕ) (r : Entry) → a ≡ word_at line_width lines i 0 → b ≡ word_at line_width lines i 1 → e ≡ word_at line_width lines i 2 → r ≡ name_entry source exprs names n (record { start = record { 0 = a }; len = b }) e → r ≡ line_entry source lines exprs names n i
-unfolding line_entry
-line_words_law source lines exprs names n i a b e r ea eb ee er = er ∙ rw (ea, eb, ee)

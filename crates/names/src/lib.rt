@@ -28,6 +28,7 @@ pub enum Entry {
 }
 
 // What a line with this name does, if the name is known: a first expression counts, a later one is an error.
+#[tactic(auto, unfolding(crate::specs::Code::known_entry))]
 fn known_entry(exprs: &[u32], names: &[u32], known: NameNo, name: Span, expr: ExprNo) -> Entry
     ensures { result ≡ known_entry exprs.now names.now known.0 name expr.0 }
 {
@@ -53,6 +54,7 @@ fn known_entry(exprs: &[u32], names: &[u32], known: NameNo, name: Span, expr: Ex
 }
 
 // What a line with this legal name does; the name is known unless its number is 0.
+#[tactic(auto, unfolding(crate::specs::Code::legal_entry))]
 fn legal_entry(exprs: &[u32], names: &[u32], known: NameNo, name: Span, expr: ExprNo) -> Entry
     ensures { result ≡ legal_entry exprs.now names.now known.0 name expr.0 }
 {
@@ -67,6 +69,7 @@ fn legal_entry(exprs: &[u32], names: &[u32], known: NameNo, name: Span, expr: Ex
 }
 
 // What a line with this name and this expression does.
+#[tactic(auto, unfolding(crate::specs::Code::name_entry))]
 fn name_entry(
     source: &[u8],
     exprs: &[u32],

@@ -110,6 +110,7 @@ fn expr_span(exprs: &[u32], expr: ExprNo) -> Span
 }
 
 // The name that a reference uses; 0 if that has no legal line.
+#[tactic(auto, unfolding(crate::specs::Words::used_in))]
 fn used_name(program: Program, names: &[u32], expr: ExprNo) -> NameNo
     ensures { result.0 ≡ used_in program.entry.source.now program.entry.exprs.now names.now program.entry.count expr.0 }
 {
@@ -118,6 +119,7 @@ fn used_name(program: Program, names: &[u32], expr: ExprNo) -> NameNo
 }
 
 // The kind of an expression's node; a name that has no expression has an incomplete node.
+#[tactic(auto, unfolding(crate::specs::Words::kind_in))]
 fn node_kind(exprs: &[u32], expr: ExprNo) -> NodeKind
     ensures { result.0 ≡ kind_in exprs.now expr.0 }
 {
@@ -128,6 +130,7 @@ fn node_kind(exprs: &[u32], expr: ExprNo) -> NodeKind
 }
 
 // The span of an expression's node: the expression's, or the name's if that has none.
+#[tactic(auto, unfolding(crate::specs::Words::span_in))]
 fn node_span(exprs: &[u32], names: &[u32], expr: ExprNo, name: NameNo) -> Span
     ensures { result ≡ span_in exprs.now names.now expr.0 name.0 }
 {
@@ -138,6 +141,7 @@ fn node_span(exprs: &[u32], names: &[u32], expr: ExprNo, name: NameNo) -> Span
 }
 
 // The place of an expression's node: the outermost node of a name has the name's place.
+#[tactic(auto, unfolding(crate::specs::Words::place_in))]
 fn node_place(exprs: &[u32], names: &[u32], expr: ExprNo, name: NameNo) -> ByteOffset
     ensures { result.0 ≡ place_in exprs.now names.now expr.0 name.0 }
 {
@@ -386,7 +390,7 @@ fn turn(
         → Turns program.entry.source.now program.entry.exprs.now program.entry.count g names.old nodes.old work.old result names.new nodes.new work.new }
 {
     match g.step {
-        Step::Down(expr, name) => { go_down(program, names, nodes, work, expr, name, g) }
+        Step::Down(expr, name) => go_down(program, names, nodes, work, expr, name, g),
         Step::Up(node) => come_up(program, names, nodes, work, node, g),
     }
 }
@@ -480,6 +484,7 @@ fn with_parent(node: NodeRecord) -> NodeRecord
 }
 
 // One parent more for the node i, if that is one of `count`.
+#[tactic(auto, unfolding(crate::specs::Words::bumped))]
 fn add_parent(nodes: &mut [u32], count: u32, i: u32)
     ensures { nodes.new ≡ bumped nodes.old count i }
 {
