@@ -19,6 +19,7 @@ pub struct LexedRow {
 }
 
 // The lexer's answer as numbers.
+#[tactic(auto, unfolding(crate::specs::Rows::lexed_row))]
 pub fn lexed_row(answer: Result<u32, LexError>) -> LexedRow
     ensures { result ≡ lexed_row answer }
 {
@@ -27,7 +28,7 @@ pub fn lexed_row(answer: Result<u32, LexError>) -> LexedRow
         no: row.no,
         value: row.value,
         place: row.place,
-        tokens: lex::count(answer),
+        tokens: answer.unwrap_or(0),
     }
 }
 
@@ -45,11 +46,12 @@ pub struct ParsedRow {
 }
 
 // The parser's answer as numbers.
+#[tactic(auto, unfolding(crate::specs::Rows::parsed_row))]
 pub fn parsed_row(answer: Result<Counts, ParseError>) -> ParsedRow
     ensures { result ≡ parsed_row answer }
 {
     let row = refusals::row(answer);
-    let counts = ends::parse_counts(answer);
+    let counts: Counts = answer.unwrap_or_default();
     ParsedRow {
         no: row.no,
         value: row.value,
@@ -78,11 +80,12 @@ pub struct ReadRow {
 }
 
 // The reader's answer as numbers.
+#[tactic(auto, unfolding(crate::specs::Rows::read_row))]
 pub fn read_row(answer: Result<ReadCounts, ParseError>) -> ReadRow
     ensures { result ≡ read_row answer }
 {
     let row = refusals::row(answer);
-    let counts = ends::read_counts(answer);
+    let counts: ReadCounts = answer.unwrap_or_default();
     let parsed = counts.parsed;
     ReadRow {
         no: row.no,
@@ -126,6 +129,7 @@ pub struct ListedRow {
 }
 
 // The lister's answer as numbers.
+#[tactic(auto, unfolding(crate::specs::Rows::listed_row))]
 pub fn listed_row(answer: Option<usize>) -> ListedRow
     ensures { result ≡ listed_row answer }
 {

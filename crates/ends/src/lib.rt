@@ -3,14 +3,14 @@
 
 ghost use Rattle.std.specs.Prelude.{◌≡◌};
 ghost use Rattle.ends.specs.declared.ParseError.TheVariants.{NotLexed, Refused};
-ghost use Rattle.ends.specs.Rows.{row_of_parse_error, no_counts, no_read_counts, counts_of_parse, counts_of_read};
+ghost use Rattle.ends.specs.Rows.{row_of_parse_error};
 
 use cursor::ParseRefusal;
 use lex::LexError;
 use records::refusals::{Cause, Refusal};
 
-// How many records there are of each table.
-#[derive(Clone, Copy)]
+// How many records there are of each table; by default none.
+#[derive(Clone, Copy, Default)]
 pub struct Counts {
     pub tokens: u32,
     pub lines: u32,
@@ -18,8 +18,8 @@ pub struct Counts {
     pub types: u32,
 }
 
-// How many records there are of each table that reading fills; work has none.
-#[derive(Clone, Copy)]
+// How many records there are of each table that reading fills; work has none. By default there is none of any.
+#[derive(Clone, Copy, Default)]
 pub struct ReadCounts {
     pub parsed: Counts,
     pub names: u32,
@@ -59,41 +59,4 @@ impl Cause for ParseError {
             ParseError::Refused(refusal) => refusal.row(),
         }
     }
-}
-
-// No record of any table.
-fn no_counts() -> Counts
-    ensures { result ≡ no_counts }
-{
-    Counts {
-        tokens: 0,
-        lines: 0,
-        exprs: 0,
-        types: 0,
-    }
-}
-
-fn no_read_counts() -> ReadCounts
-    ensures { result ≡ no_read_counts }
-{
-    ReadCounts {
-        parsed: no_counts(),
-        names: 0,
-        nodes: 0,
-        errors: 0,
-    }
-}
-
-// How many records parsing has made: none where there is an error.
-pub fn parse_counts(answer: Result<Counts, ParseError>) -> Counts
-    ensures { result ≡ counts_of_parse answer }
-{
-    answer.unwrap_or(no_counts())
-}
-
-// How many records reading has made: none where there is an error.
-pub fn read_counts(answer: Result<ReadCounts, ParseError>) -> ReadCounts
-    ensures { result ≡ counts_of_read answer }
-{
-    answer.unwrap_or(no_read_counts())
 }

@@ -6,7 +6,7 @@ ghost use Rattle.records.specs.Limits.{source_limit, record_limit, token_width};
 ghost use Rattle.tables.specs.Tables.{table_of, written};
 ghost use Rattle.matches.specs.Longest.{lex_at};
 ghost use Rattle.records.specs.Refusals.{refusal_row as row_with};
-ghost use Rattle.lex.specs.Tokens.{lexing, token_table, lex_all, leaves, row_of_lex_error, count_of};
+ghost use Rattle.lex.specs.Tokens.{lexing, token_table, lex_all, leaves, row_of_lex_error};
 ghost use Rattle.lex.specs.Code.{next_of, token_record, table_next};
 
 use matches::Lexed;
@@ -50,13 +50,6 @@ impl Cause for LexError {
             LexError::TooManyTokens(at) => row(Refusal::TOO_MANY_TOKENS, at),
         }
     }
-}
-
-// How many tokens there are: none where there is an error.
-pub fn count(answer: Result<u32, LexError>) -> u32
-    ensures { result ≡ count_of answer }
-{
-    answer.unwrap_or(0)
 }
 
 // Words of a token table.
@@ -121,6 +114,7 @@ pub fn lex_text(source: &[u8], tokens: &mut [u32]) -> Result<u32, LexError>
     clear_tokens(tokens);
     let mut at: usize = 0;
     let mut count: u32 = 0;
+    // No `for` fits: a turn goes as far as what matches.
     while at < source.len() {
         match lex_next(source, tokens, at, count) {
             Ok(next) => (at, count) = next,

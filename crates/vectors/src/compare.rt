@@ -93,7 +93,7 @@ fn tokens_agree(source: &[u8], bytes: &[u8], a: Stored) -> bool
         return row.no == Refusal::NONE;
     }
     (row.no == Refusal::NONE)
-        & (lex::count(answer) as usize == a.tokens)
+        & (answer.unwrap_or(0) as usize == a.tokens)
         & words_agree(&tokens, bytes, TokenRecord::WORDS as usize * a.tokens)
 }
 
