@@ -46,13 +46,6 @@ pub fn bit_length(kind: TokenKind, len: u32) -> u32
     0
 }
 
-// a less b, but not below 0.
-pub fn saturating_sub(a: u8, b: u8) -> u8
-    ensures { result ≡ a - b }
-{
-    a.saturating_sub(b)
-}
-
 // The value of a digit 0 to 9, a to f.
 fn digit_value(d: u8) -> u8
     ensures { result ≡ value_of d }

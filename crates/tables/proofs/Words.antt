@@ -9,7 +9,7 @@ use native.Mathlib.Nat.{add-zero}
 use lib.Dec.{leb}
 use borrow.Author.Tests.{leb-true, leb-false}
 use lib.ListN.{length, get_or, take, drop, set, length-take, drop_of_length-le, get_or-eq_default}
-use lib.Seq.{sets, drop-cons, get_or-take, get_or-drop, take_all, take-length}
+use lib.Seq.{sets, drop-cons, get_or-take, get_or-drop, set_out, take_all, take-length}
 use Rattle.records.specs.Base.{within}
 use Rattle.records.specs.Limits.{record_limit}
 use Rattle.tables.specs.Tables.{record_at, word_at, written}
@@ -54,20 +54,24 @@ module _ (w : ℕ) (t : List ℕ) (n : ℕ) (ws : List ℕ) where
   written_here at k new e ea ek en = en ∙ rw (e, ea, ek, ← take_min w ws)
 
 -- storing words one by one: t is the table now, t₀ what it was
-module _ (t₀ ws : List ℕ) (at : ℕ) where
-  pub Storing : (t : List ℕ) (j : ℕ) → Type 0
+module _ {A : Type 0} (t₀ ws : List A) (at : ℕ) where
+  pub Storing : (t : List A) (j : ℕ) → Type 0
   Storing t j = sets t₀ at ws ≡ sets t (at + j) (drop j ws)
 
   pub storing_none : Storing t₀ 0
   unfolding Storing
   storing_none = rw add-zero
 
-  pub storing_more : (t new : List ℕ) (j : ℕ) → j < length ws → new ≡ set t (at + j) (get_or ws j 0) → Storing t j → Storing new (j + 1)
+  pub storing_more : (t new : List A) (j : ℕ) (x : A) → j < length ws → x ≡ get_or ws j x → new ≡ set t (at + j) x → Storing t j → Storing new (j + 1)
   unfolding Storing
-  storing_more t new j k e s =
+  storing_more t new j x k ex e s =
       let z : at + suc j ≡ suc (at + j) = omega arith in
-      s ∙ rw (e, add-one j, z, drop-cons ws j 0 k)
+      s ∙ rw (drop-cons ws j x k, ← ex, e, add-one j, z)
 
-  pub storing_done : (t : List ℕ) (j : ℕ) → length ws ≤ j → Storing t j → t ≡ sets t₀ at ws
+  -- past the end nothing is stored
+  pub storing_out : (t new : List A) (j : ℕ) (x : A) → j < length ws → x ≡ get_or ws j x → length t ≤ at + j → new ≡ t → Storing t j → Storing new (j + 1)
+  storing_out t new j x k ex h e = storing_more t new j x k ex (e ∙ sym (set_out t (at + j) x h))
+
+  pub storing_done : (t : List A) (j : ℕ) → length ws ≤ j → Storing t j → t ≡ sets t₀ at ws
   unfolding Storing
   storing_done t j k s = sym (s ∙ rw (drop_of_length-le ws k))

@@ -12,29 +12,15 @@ use records::limits::Limits;
 use records::numbers::ByteOffset;
 use records::{Record, Span};
 
-// The lesser of two lengths.
-pub fn lesser(a: usize, b: usize) -> usize
-    ensures { result ≡ min a b }
+// Stores items one behind the other from `at` on; past the end nothing.
+pub fn put<T: Copy>(out: &mut [T], at: usize, items: &[T])
+    requires { at + length items.now < 2 ^ 64 }
+    ensures { out.new ≡ sets out.old at items.now }
 {
-    a.min(b)
-}
-
-// Stores v at i; past the end nothing. A test of the index is as plain here as `get_mut`.
-fn store(table: &mut [u32], i: usize, v: u32)
-    ensures { table.new ≡ set table.old i v }
-{
-    if i < table.len() {
-        table[i] = v;
-    }
-}
-
-// Stores the first `count` of the words from `at` on; past the end nothing.
-fn put(table: &mut [u32], at: usize, words: &[u32], count: usize)
-    requires { (at < 2 ^ 60) × (count ≤ length words.now) }
-    ensures { table.new ≡ sets table.old at (take count words.now) }
-{
-    for (j, word) in words[..count].iter().enumerate() {
-        store(table, at + j, *word);
+    for (j, item) in items.iter().enumerate() {
+        if at + j < out.len() {
+            out[at + j] = *item;
+        }
     }
 }
 
@@ -83,12 +69,8 @@ pub fn write(table: &mut [u32], width: u32, number: u32, words: &[u32])
     ensures { table.new ≡ written width table.old number words.now }
 {
     if is_number(number) {
-        put(
-            table,
-            begin(width, number),
-            words,
-            words.len().min(width as usize),
-        );
+        let count = words.len().min(width as usize);
+        put(table, begin(width, number), &words[..count]);
     }
 }
 

@@ -4,4 +4,4 @@ use Rattle.tables.proofs.Words.{Storing}
 use Rattle.tables.proofs.put.Given as goal
 
 abbrev pub invariant-loop-j : goal.invariant-loop-j
-invariant-loop-j l = Storing l.initial.table l.word-items l.at l.table l.j
+invariant-loop-j g l = Storing l.initial.out l.items l.at l.out l.j
