@@ -17,15 +17,6 @@ use records::limits::Limits;
 use records::numbers::{ExprNo, TokenNo, TypeNo};
 use records::{ExprRecord, LineRecord, TokenRecord, TypeRecord};
 
-// Words of a table of tokens, lines, expressions and types.
-const TOKEN_TABLE: usize = Limits::RECORDS as usize * TokenRecord::WORDS as usize;
-
-const LINE_TABLE: usize = Limits::RECORDS as usize * LineRecord::WORDS as usize;
-
-const EXPR_TABLE: usize = Limits::RECORDS as usize * ExprRecord::WORDS as usize;
-
-const TYPE_TABLE: usize = Limits::RECORDS as usize * TypeRecord::WORDS as usize;
-
 // Sets the records of the tables of lines, expressions and types, which have room, to zero.
 fn clear_parsed(lines: &mut [u32], exprs: &mut [u32], types: &mut [u32])
     requires { (record_limit * line_width ≤ length lines.old) × (record_limit * expr_width ≤ length exprs.old) × (record_limit * type_width ≤ length types.old) }
@@ -85,7 +76,10 @@ pub fn parse_tokens(
 fn is_short(tokens: usize, lines: usize, exprs: usize, types: usize) -> bool
     ensures { result ≡ short_to_parse_by tokens lines exprs types }
 {
-    (tokens < TOKEN_TABLE) | (lines < LINE_TABLE) | (exprs < EXPR_TABLE) | (types < TYPE_TABLE)
+    (tokens < TokenRecord::TABLE)
+        | (lines < LineRecord::TABLE)
+        | (exprs < ExprRecord::TABLE)
+        | (types < TypeRecord::TABLE)
 }
 
 // Parses the tokens of a source that has lexed. A refusal sets the records of the tokens to zero too.

@@ -52,9 +52,6 @@ impl Cause for LexError {
     }
 }
 
-// Words of a token table.
-const TOKEN_TABLE: usize = Limits::RECORDS as usize * TokenRecord::WORDS as usize;
-
 // Bytes of a source.
 const SOURCE_LIMIT: usize = Limits::SOURCE as usize;
 
@@ -132,7 +129,7 @@ pub fn lex_all(source: &[u8], tokens: &mut [u32]) -> Result<u32, LexError>
     ensures answer { result ≡ lex_all source.now tokens.old }
     ensures table { tokens.new ≡ leaves (lex_all source.now tokens.old) source.now tokens.old }
 {
-    if tokens.len() < TOKEN_TABLE {
+    if tokens.len() < TokenRecord::TABLE {
         return Err(LexError::ShortTable);
     }
     if SOURCE_LIMIT < source.len() {

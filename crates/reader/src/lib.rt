@@ -14,20 +14,14 @@ use lex::LexError;
 use records::limits::Limits;
 use records::{ErrorRecord, NameRecord, NodeRecord, WorkRecord};
 
-// Words of a table of names, nodes, errors and work.
-const NAME_TABLE: usize = Limits::RECORDS as usize * NameRecord::WORDS as usize;
-
-const NODE_TABLE: usize = Limits::RECORDS as usize * NodeRecord::WORDS as usize;
-
-const ERROR_TABLE: usize = Limits::RECORDS as usize * ErrorRecord::WORDS as usize;
-
-const WORK_TABLE: usize = Limits::RECORDS as usize * WorkRecord::WORDS as usize;
-
 // Whether a table of so many words is too short for its records.
 fn is_short(names: usize, nodes: usize, errors: usize, work: usize) -> bool
     ensures { result ≡ short_to_read_by names nodes errors work }
 {
-    (names < NAME_TABLE) | (nodes < NODE_TABLE) | (errors < ERROR_TABLE) | (work < WORK_TABLE)
+    (names < NameRecord::TABLE)
+        | (nodes < NodeRecord::TABLE)
+        | (errors < ErrorRecord::TABLE)
+        | (work < WorkRecord::TABLE)
 }
 
 // Sets the records of the four tables behind the parser's, which have room, to zero.

@@ -1,5 +1,6 @@
 // What the numbers mean: the records of the tables, their words, and which word of a record holds what. The kinds, the
-// limits and the types of numbers stand in modules of their own.
+// limits and the types of numbers stand in modules of their own. `WORDS` is how many words a record has, `TABLE` how many a
+// table of them needs.
 #![tactic(auto)]
 
 ghost use Rattle.std.specs.Prelude.{◌≡◌, ◌<◌, ◌^◌, List, ℕ};
@@ -7,6 +8,7 @@ ghost use Rattle.std.proofs.Common.{rules};
 ghost use Rattle.records.specs.Records.{no_span, token_words, line_words, expr_words, type_words, name_words, node_words, error_words, word_places};
 
 use crate::kinds::{ErrorKind, NodeKind, TokenKind, TypeKind};
+use crate::limits::Limits;
 use crate::numbers::{ByteOffset, ExprNo, NameNo, NodeNo, TypeNo};
 
 pub mod kinds;
@@ -52,6 +54,8 @@ pub struct TokenRecord {
 impl TokenRecord {
     pub const WORDS: u32 = 3;
 
+    pub const TABLE: usize = Limits::RECORDS as usize * Self::WORDS as usize;
+
     pub const KIND: u32 = 0;
 
     pub const START: u32 = 1;
@@ -79,6 +83,8 @@ pub struct LineRecord {
 
 impl LineRecord {
     pub const WORDS: u32 = 5;
+
+    pub const TABLE: usize = Limits::RECORDS as usize * Self::WORDS as usize;
 
     pub const NAME_START: u32 = 0;
 
@@ -118,6 +124,8 @@ pub struct ExprRecord {
 
 impl ExprRecord {
     pub const WORDS: u32 = 6;
+
+    pub const TABLE: usize = Limits::RECORDS as usize * Self::WORDS as usize;
 
     pub const KIND: u32 = 0;
 
@@ -161,6 +169,8 @@ pub struct TypeRecord {
 impl TypeRecord {
     pub const WORDS: u32 = 4;
 
+    pub const TABLE: usize = Limits::RECORDS as usize * Self::WORDS as usize;
+
     pub const KIND: u32 = 0;
 
     pub const LEFT: u32 = 1;
@@ -189,6 +199,8 @@ pub struct NameRecord {
 
 impl NameRecord {
     pub const WORDS: u32 = 4;
+
+    pub const TABLE: usize = Limits::RECORDS as usize * Self::WORDS as usize;
 
     pub const START: u32 = 0;
 
@@ -222,6 +234,8 @@ pub struct NodeRecord {
 
 impl NodeRecord {
     pub const WORDS: u32 = 8;
+
+    pub const TABLE: usize = Limits::RECORDS as usize * Self::WORDS as usize;
 
     pub const KIND: u32 = 0;
 
@@ -269,6 +283,8 @@ pub struct ErrorRecord {
 impl ErrorRecord {
     pub const WORDS: u32 = 4;
 
+    pub const TABLE: usize = Limits::RECORDS as usize * Self::WORDS as usize;
+
     pub const KIND: u32 = 0;
 
     pub const START: u32 = 1;
@@ -294,6 +310,8 @@ pub struct WorkRecord {}
 
 impl WorkRecord {
     pub const WORDS: u32 = 4;
+
+    pub const TABLE: usize = Limits::RECORDS as usize * Self::WORDS as usize;
 }
 
 // How many words the records of the seven tables have together.

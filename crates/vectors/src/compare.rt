@@ -65,9 +65,6 @@ fn place_agrees(source: &[u8], bytes: &[u8], a: Stored, i: usize) -> bool
     (p.line == stored::number(bytes, at)) & (p.column == stored::number(bytes, at + 1))
 }
 
-// Words of a token table.
-const TOKEN_TABLE: usize = Limits::RECORDS as usize * TokenRecord::WORDS as usize;
-
 // Whether a table holds the stored tokens' words, so many, and zeros behind them.
 fn words_agree(tokens: &[u32], bytes: &[u8], words: usize) -> bool
     requires { words < 2 ^ 40 }
@@ -83,7 +80,7 @@ fn words_agree(tokens: &[u32], bytes: &[u8], words: usize) -> bool
 fn tokens_agree(source: &[u8], bytes: &[u8], a: Stored) -> bool
     requires { a.tokens < 2 ^ 32 }
 {
-    let mut tokens = [0u32; TOKEN_TABLE];
+    let mut tokens = [0u32; TokenRecord::TABLE];
     let answer = lex::lex_all(source, &mut tokens);
     let row = refusals::row(answer);
     if (a.no != Refusal::NONE) & (a.no <= Refusal::TOO_MANY_TOKENS) {
