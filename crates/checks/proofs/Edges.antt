@@ -1,9 +1,9 @@
 -- Where the name is the piece behind a newline, the jet list has its edges: that newline, the first byte, the last byte, a newline.
 -- So a block without such edges is passed. Assumes nothing.
 use Rattle.std.specs.Prelude.{if◌then◌else◌}
-use Prim.Native.Nat.{ℕ, zero, suc, ◌+◌, ◌-◌, ◌≤◌, ◌<◌}
+use Prim.Native.Nat.{ℕ, zero, suc, ◌+◌, ◌≤◌, ◌<◌}
 use mathlib.Core.Bool.{Bool, true, false, not, ◌||◌}
-use mathlib.Core.Path.{◌≡◌, refl, sym, ap, ◌∙◌}
+use mathlib.Core.Path.{◌≡◌, refl, sym, ◌∙◌}
 use mathlib.Core.List.{List, [], ◌∷◌}
 use native.Mathlib.Omega.{arith}
 use lib.Dec.{eqb}
@@ -16,33 +16,6 @@ use Rattle.classes.specs.declared.Class.TheVariants.{NotLf}
 use Rattle.matches.specs.Code.{is_word}
 use Rattle.checks.specs.Code.{is_first, is_behind, is_later, first_of, last_of, edged, any_edged}
 use Rattle.checks.proofs.Lines.{later_at}
-
--- ---- the first and the last byte of a name, as the code reads them
-
--- what an offset past the end has does not matter below it
-get_any : (s : List ℕ) (i d e : ℕ) → i < length s → get_or s i d ≡ get_or s i e
-get_any [] i d e h = absurd (omega arith)
-get_any (b ∷ s) zero d e h = refl
-get_any (b ∷ s) (suc i) d e h = get_any s i d e (omega arith)
-
-module _ (name : List ℕ) where
-  pub first_none : length name ≡ 0 → 10 ≡ first_of name
-  unfolding first_of
-  first_none e = sym (get_or-eq_default name 10 (omega arith))
-
-  pub first_some : (length name ≡ 0 → ⊥) → get_or name 0 0 ≡ first_of name
-  unfolding first_of
-  first_some n = get_any name 0 0 10 (omega arith)
-
-  pub last_none : length name ≡ 0 → 10 ≡ last_of name
-  unfolding last_of
-  last_none e = rw e
-
-  pub last_some : (length name ≡ 0 → ⊥) → get_or name (length name - 1) 0 ≡ last_of name
-  unfolding last_of
-  last_some n =
-      let z : length name ≡ suc (length name - 1) = omega arith in
-      get_any name (length name - 1) 0 10 (omega arith) ∙ ap (λ (k : ℕ). get_or (10 ∷ name) k 10) (sym z)
 
 -- ---- the edges of a piece
 

@@ -73,7 +73,7 @@ later_pieces_law name (b ∷ s) = go (eqb b 10) (later_pieces_law name s)
     go true e = rw (leb-suc-zero (length s), pieces_run s, first_same name s, e)
     go false e = rw (leb-suc-suc (length s) (run NotLf s)) e
 
-listed_split : (name jets : List ℕ) → is_one_of name (pieces jets) ≡ is_first name jets || is_later name jets
+pub listed_split : (name jets : List ℕ) → is_one_of name (pieces jets) ≡ is_first name jets || is_later name jets
 unfolding is_one_of
 listed_split name jets = rw (pieces_run jets, first_same name jets, later_pieces_law name jets)
 
@@ -98,33 +98,11 @@ module _ (name jets : List ℕ) (i : ℕ) where
   unfolding is_later is_behind
   later_at h = rw (drop-cons jets i 0, add-one)
 
-  pub later_found : i < length jets → (r : Bool) → r ≡ is_behind name jets i → r ≡ true → is_later name (drop i jets) ≡ true
-  later_found h r e t = later_at h ∙ rw (← e, t)
-
-  pub later_on : i < length jets → (r : Bool) → r ≡ is_behind name jets i → r ≡ false → is_later name (drop i jets) ≡ is_later name (drop (i + 1) jets)
-  later_on h r e f = later_at h ∙ rw (← e, f)
-
   later_end : length jets ≤ i → is_later name (drop i jets) ≡ false
   unfolding is_later
   later_end h = rw drop_of_length-le
 
 -- ---- the whole list
-
--- r is whether the first piece is the name
-module _ (name jets : List ℕ) (r : Bool) (e : r ≡ is_first name jets) where
-  pub listed_first : r ≡ true → is_one_of name (pieces jets) ≡ true
-  listed_first t = listed_split name jets ∙ rw (← e, t)
-
-  pub listed_later : r ≡ false → is_one_of name (pieces jets) ≡ is_later name jets
-  listed_later f = listed_split name jets ∙ rw (← e, f)
-
--- r is whether the name is a piece behind a newline from an offset to another
-module _ (name jets : List ℕ) (from end : ℕ) (r : Bool) (e : is_later name (drop from jets) ≡ r || is_later name (drop end jets)) where
-  pub part_found : r ≡ true → is_later name (drop from jets) ≡ true
-  part_found t = e ∙ rw t
-
-  pub part_passed : r ≡ false → is_later name (drop from jets) ≡ is_later name (drop end jets)
-  part_passed f = e ∙ rw f
 
 -- r is whether the name is a piece behind a newline from an offset to the end of the list
 pub listed_last : (name jets : List ℕ) (at : ℕ) (r : Bool) → is_later name (drop at jets) ≡ r || is_later name (drop (length jets) jets) → is_later name (drop at jets) ≡ r

@@ -2,7 +2,7 @@
 use Rattle.std.specs.Prelude.{if◌then◌else◌, Err, None, Option, Some}
 use Prim.Native.Nat.{ℕ, zero, suc, ◌+◌, ◌-◌, ◌*◌, ◌^◌, ◌≤◌, ◌<◌}
 use mathlib.Core.Bool.{Bool, true, false}
-use mathlib.Core.Path.{◌≡◌, refl, sym, ap, ◌∙◌}
+use mathlib.Core.Path.{◌≡◌, refl, ap, ◌∙◌}
 use mathlib.Core.List.{List, [], ◌∷◌}
 use mathlib.Core.Logic.{◌⊎◌, inl, inr, ⊎_elim}
 use native.Mathlib.Omega.{arith}
@@ -10,7 +10,7 @@ use native.Mathlib.Numerals.{add-one}
 use lib.Dec.{eqb, ltb}
 use lib.ListN.{length, drop, get_or, drop_of_length-le}
 use lib.Seq.{drop-cons}
-use borrow.Author.Tests.{eq-eqb, ne_eqb, eqb-true, eqb-false, lt-ltb, le-ltb, ltb-true, ltb-false}
+use borrow.Author.Tests.{eqb-true, eqb-false, lt-ltb, le-ltb, ltb-true, ltb-false}
 use Rattle.checks.specs.declared.Fault.TheVariants.{NumberOutOfRange}
 use Rattle.std.specs.Option.{ok_or}
 use Rattle.checks.specs.declared.Fault.TheVariants.{Bad2ExpNumber}
@@ -26,21 +26,6 @@ lt_or_le a b = go (ltb a b) refl
     go false e = inr (ltb-false a b e)
 
 -- ---- powers of two
-
--- the clauses of the definition, at k = j + 1
-module _ (n p k j : ℕ) (e : p ≡ 2 ^ j) where
-  pub log2_hit : n ≡ p → k ≡ suc j → log2 k n ≡ Some j
-  unfolding log2
-  log2_hit q s = rw (s, eq-eqb n (2 ^ j) (q ∙ e))
-
-  pub log2_miss : (n ≡ p → ⊥) → k ≡ suc j → log2 k n ≡ log2 j n
-  unfolding log2
-  log2_miss q s = rw (s, ne_eqb n (2 ^ j) (λ x. q (x ∙ sym e)))
-
-pub log2_end : (k n : ℕ) → k ≤ 0 → log2 k n ≡ None
-unfolding log2
-log2_end zero n h = refl
-log2_end (suc k) n h = absurd (omega arith)
 
 pub log2_right : (bound n : ℕ) → RightLog2 bound n (log2 bound n)
 unfolding log2
@@ -58,9 +43,6 @@ log2_right (suc b) n = go (eqb n (2 ^ b)) refl (log2 b n) (log2_right b n)
         let z : k ≡ b = omega arith in
         eqb-false n (2 ^ b) e (p ∙ ap (λ (j : ℕ). 2 ^ j) z))
         (lt_or_le k b)
-
-pub log2_exact : (bound n k : ℕ) → log2 bound n ≡ Some k → (n ≡ 2 ^ k) × (k < bound)
-log2_exact bound n k e = rw e at (log2_right bound n)
 
 pub log2_none : (bound n : ℕ) → log2 bound n ≡ None → (k : ℕ) → k < bound → n ≡ 2 ^ k → ⊥
 log2_none bound n e = rw e at (log2_right bound n)

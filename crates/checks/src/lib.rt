@@ -91,6 +91,7 @@ fn power_of_two(k: u32) -> u32
 }
 
 // The k below the bound with 2^k = n, if there is one.
+#[tactic(auto, unfolding(crate::specs::Powers::log2))]
 fn exact_log2(bound: u32, n: u32) -> Option<u32>
     requires { bound ≤ 32 }
     ensures { result ≡ log_of bound n }
@@ -104,6 +105,7 @@ fn exact_log2(bound: u32, n: u32) -> Option<u32>
 }
 
 // Whether `const` takes a literal of so many bits.
+#[tactic(auto, unfolding(crate::specs::Checks::word_verdict))]
 pub fn check_word(bits: u32) -> Result<(), Fault>
     ensures { result ≡ word_verdict bits }
 {
@@ -114,6 +116,7 @@ pub fn check_word(bits: u32) -> Result<(), Fault>
 }
 
 // Whether `fail` takes a literal of so many bits.
+#[tactic(auto, unfolding(crate::specs::Checks::fail_verdict))]
 pub fn check_fail(bits: u32) -> Result<(), Fault>
     ensures { result ≡ fail_verdict bits }
 {
@@ -127,6 +130,7 @@ pub fn check_fail(bits: u32) -> Result<(), Fault>
 }
 
 // Whether the name is the piece that begins at an offset of the jet list.
+#[tactic(auto, using(crate::proofs::Lines::first_not, crate::proofs::Lines::first_ends))]
 fn is_piece(jets: &[u8], at: usize, name: &[u8]) -> bool
     requires { at ≤ length jets.now }
     ensures { result ≡ is_first name.now (drop at jets.now) }
@@ -139,6 +143,7 @@ fn is_piece(jets: &[u8], at: usize, name: &[u8]) -> bool
 }
 
 // Whether a newline stands at an offset, and the name is the piece behind it.
+#[tactic(auto, unfolding(crate::specs::Code::is_behind))]
 fn follows(jets: &[u8], at: usize, name: &[u8]) -> bool
     requires { at < length jets.now }
     ensures { result ≡ is_behind name.now jets.now at }
@@ -151,6 +156,7 @@ fn follows(jets: &[u8], at: usize, name: &[u8]) -> bool
 }
 
 // Whether the name is a piece behind a newline that stands before `end`, from `from` on: offset after offset.
+#[tactic(auto, using(crate::proofs::Lines::later_at))]
 fn is_later(jets: &[u8], from: usize, end: usize, name: &[u8]) -> bool
     requires { (from ≤ end) × (end ≤ length jets.now) }
     ensures { is_later name.now (drop from jets.now) ≡ result || is_later name.now (drop end jets.now) }
@@ -164,6 +170,7 @@ fn is_later(jets: &[u8], from: usize, end: usize, name: &[u8]) -> bool
 }
 
 // The first byte of a name. The empty name has a newline there: the one behind it.
+#[tactic(auto, unfolding(crate::specs::Code::first_of))]
 fn first_of(name: &[u8]) -> u8
     ensures { result ≡ first_of name.now }
 {
@@ -171,6 +178,7 @@ fn first_of(name: &[u8]) -> u8
 }
 
 // The last byte of a name. The empty name has a newline there: the one before it.
+#[tactic(auto, unfolding(crate::specs::Code::last_of))]
 fn last_of(name: &[u8]) -> u8
     ensures { result ≡ last_of name.now }
 {
@@ -201,6 +209,7 @@ fn any_edged(jets: &[u8], at: usize, m: usize, first: u8, last: u8) -> bool
 
 // Whether the name is a piece behind a newline of the block. Only a block that has its first and last byte between
 // newlines is searched: most have not.
+#[tactic(auto, using(crate::proofs::Edges::block_none))]
 fn is_in_block(jets: &[u8], at: usize, name: &[u8], first: u8, last: u8) -> bool
     requires first_value { (first ≡ first_of name.now) × (last ≡ last_of name.now) }
     requires block_size_in_bounds { at + length name.now + block_size < length jets.now }
@@ -214,6 +223,7 @@ fn is_in_block(jets: &[u8], at: usize, name: &[u8], first: u8, last: u8) -> bool
 }
 
 // Whether the name is a piece of the jet list: the first one, or one behind a newline, block after block.
+#[tactic(auto, using(crate::proofs::Lines::listed_split, crate::proofs::Lines::listed_last))]
 fn is_listed(jets: &[u8], name: &[u8]) -> bool
     ensures { result ≡ is_one_of name.now (pieces jets.now) }
 {
@@ -233,6 +243,7 @@ fn is_listed(jets: &[u8], name: &[u8]) -> bool
 }
 
 // Whether a jet is known, by its token's text.
+#[tactic(auto, using(crate::proofs::Lines::known_listed), unfolding(crate::specs::Checks::jet_verdict))]
 pub fn check_jet(jets: &[u8], text: &[u8]) -> Result<(), Fault>
     ensures { result ≡ jet_verdict jets.now text.now }
 {
@@ -244,6 +255,7 @@ pub fn check_jet(jets: &[u8], text: &[u8]) -> Result<(), Fault>
 }
 
 // A number with the decimal digit d more, held below the cap.
+#[tactic(auto, unfolding(crate::specs::Code::capped))]
 fn push_digit(n: usize, d: u8) -> usize
     requires { n ≤ exponent_cap }
     ensures { result ≡ capped (10 * n + (d - 48)) }
@@ -253,6 +265,7 @@ fn push_digit(n: usize, d: u8) -> usize
 }
 
 // The exponent behind `2^`, which may have any number of digits: its value if that is below the cap.
+#[tactic(auto, using(crate::proofs::Powers::exponent_end, crate::proofs::Lines::prefix_rest))]
 fn exponent(text: &[u8]) -> usize
     ensures { result ≡ capped (exponent_of text.now) }
 {
@@ -264,6 +277,7 @@ fn exponent(text: &[u8]) -> usize
 }
 
 // The n of 2^(2^n), by the token's text.
+#[tactic(auto, using(crate::proofs::Powers::power_found, crate::proofs::Powers::power_big, crate::proofs::Powers::power_fits))]
 pub fn check_power(text: &[u8]) -> Result<u32, Fault>
     ensures { result ≡ power_verdict text.now }
 {
