@@ -64,6 +64,7 @@ fn text_len(total: usize, start: u32, len: u32) -> u32
 
 impl<'a> Tokens<'a> {
     // The record of a token, with the length of its text.
+    #[tactic(auto, using(crate::proofs::Laws::text_length), unfolding(crate::specs::Tokens::token_at))]
     fn record(self, number: u32) -> TokenRecord
         ensures { result ≡ record_of (token_at self.entry.source.now self.entry.table.now number) }
     {
@@ -80,6 +81,7 @@ impl<'a> Tokens<'a> {
     }
 
     // The Rust's `peek` and `advance` in one: the next token, and the cursor behind it.
+    #[tactic(auto, using(crate::proofs::Laws::left_none, crate::proofs::Laws::left_next))]
     pub fn peek(self, c: Cursor) -> Option<(TokenRecord, Cursor)>
         ensures { result ≡ peeked c (tokens_left self.entry.source.now self.entry.table.now self.entry.count c.token.0) }
     {
@@ -96,6 +98,7 @@ impl<'a> Tokens<'a> {
     }
 
     // The Rust's `current_position`: where the next token starts, or the source's length.
+    #[tactic(auto, using(crate::proofs::Laws::left_none, crate::proofs::Laws::left_next), unfolding(crate::specs::Tokens::token_at))]
     pub fn place(self, c: Cursor) -> ByteOffset
         requires { length self.source.now ≤ source_limit }
         ensures { result.0 ≡ place_of_left (length self.entry.source.now) (tokens_left self.entry.source.now self.entry.table.now self.entry.count c.token.0) }
@@ -124,6 +127,7 @@ impl<'a> Tokens<'a> {
     }
 
     // The Rust's `expect`: passes a token of this kind.
+    #[tactic(auto, unfolding(crate::specs::Cursor::expected))]
     pub fn expect(self, kind: TokenKind, c: Cursor) -> Result<Cursor, ParseRefusal>
         requires { length self.source.now ≤ source_limit }
         ensures { result ≡ expected (length self.entry.source.now) c kind.0 (tokens_left self.entry.source.now self.entry.table.now self.entry.count c.token.0) }
@@ -135,6 +139,7 @@ impl<'a> Tokens<'a> {
     }
 
     // Passes a token of this kind behind what was read.
+    #[tactic(auto, unfolding(crate::specs::Cursor::closed))]
     pub fn close<T: Copy>(self, kind: TokenKind, p: Answer<T>) -> Answer<T>
         requires { length self.source.now ≤ source_limit }
         ensures { result ≡ closed self.entry.source.now self.entry.table.now self.entry.count kind.0 p }
@@ -158,6 +163,7 @@ pub fn span_text(source: &[u8], span: Span) -> &[u8]
 }
 
 // The number of the record behind record `number`. There is none past the last.
+#[tactic(auto, unfolding(crate::specs::Cursor::next_number))]
 pub fn next_number(number: u32) -> u32
     ensures { result ≡ next_number number }
 {
