@@ -236,3 +236,6 @@ module _ (s jets tokens : List ℕ) (n : ℕ) (c : Cursor) (ready : Ready n c) w
     pub headless : {h : Answer ExprHead} → a ≡ None → h ≡ Err (refusal_at (length s) ParseFailed left) → Is (head checks left) h
     unfolding HeadReads head choice go_on
     headless f g = subst (Is (head checks left)) (sym g) (ParseFailed, left, rw (ahead_end c a left e f), refl)
+
+-- what begins at a token, by its kind
+pub ruleset by_kind = (head_hole, head_word, head_fail, head_jet, head_symbol, head_underscore, head_parens, head_assertl, head_assertr, head_keyword)

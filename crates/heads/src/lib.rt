@@ -143,6 +143,7 @@ fn is_literal(kind: TokenKind) -> bool
 }
 
 // The Rust's `parse_literal`: the literal that has to come, and how many bits it has.
+#[tactic(auto, unfolding(crate::specs::Answers::literal_answer), using(crate::proofs::Steps::text_fits))]
 fn parse_literal(tokens: Tokens, c: Cursor) -> Answer<(Span, u32)>
     requires { length tokens.source.now ≤ source_limit }
     ensures { result ≡ literal_answer (length tokens.entry.source.now) c (tokens_left tokens.entry.source.now tokens.entry.table.now tokens.entry.count c.token.0) }
@@ -157,6 +158,7 @@ fn parse_literal(tokens: Tokens, c: Cursor) -> Answer<(Span, u32)>
 }
 
 // Behind `?`: a name, which is the place of the hole.
+#[tactic(auto, unfolding(crate::specs::Answers::hole_head))]
 fn hole_head(tokens: Tokens, c: Cursor) -> Answer<ExprHead>
     requires { length tokens.source.now ≤ source_limit }
     ensures { result ≡ hole_head (length tokens.entry.source.now) c (tokens_left tokens.entry.source.now tokens.entry.table.now tokens.entry.count c.token.0) }
@@ -170,6 +172,7 @@ fn hole_head(tokens: Tokens, c: Cursor) -> Answer<ExprHead>
 }
 
 // A whole expression, if the literal or the jet of this span passed its test; refusals 7 to 10 stand there.
+#[tactic(auto, unfolding(crate::specs::Answers::tested_by))]
 fn tested(
     test: Result<(), Fault>,
     inner: ExprInner,
@@ -189,6 +192,7 @@ fn tested(
 }
 
 // Behind `const`: its place is the literal.
+#[tactic(auto, unfolding(crate::specs::Answers::word_head))]
 fn word_head(p: Answer<(Span, u32)>) -> Answer<ExprHead>
     ensures { result ≡ word_head p }
 {
@@ -198,6 +202,7 @@ fn word_head(p: Answer<(Span, u32)>) -> Answer<ExprHead>
 }
 
 // Behind `fail`: its place is the keyword.
+#[tactic(auto, unfolding(crate::specs::Answers::fail_head))]
 fn fail_head(at: ByteOffset, p: Answer<(Span, u32)>) -> Answer<ExprHead>
     ensures { result ≡ fail_head at p }
 {
@@ -215,6 +220,7 @@ fn jet_head(source: &[u8], jets: &[u8], span: Span, c: Cursor) -> Answer<ExprHea
 }
 
 // Which keyword it is, of those with nothing but expressions behind them.
+#[tactic(auto, unfolding(crate::specs::Answers::KeywordIs))]
 fn keyword_of(kind: TokenKind) -> Option<Keyword>
     ensures { KeywordIs kind.0 result }
 {
@@ -235,6 +241,7 @@ fn keyword_of(kind: TokenKind) -> Option<Keyword>
 }
 
 // What a keyword at this place begins; refusal 6 if it is none.
+#[tactic(auto, unfolding(crate::specs::Answers::keyword_head))]
 fn keyword_head(w: Option<Keyword>, at: ByteOffset, c: Cursor) -> Answer<ExprHead>
     ensures { result ≡ keyword_head w at c }
 {
@@ -250,6 +257,7 @@ fn keyword_head(w: Option<Keyword>, at: ByteOffset, c: Cursor) -> Answer<ExprHea
 }
 
 // What a token begins; c stands behind it.
+#[tactic(auto, using(crate::proofs::Heads::by_kind))]
 fn head_of(jets: &[u8], tokens: Tokens, t: TokenRecord, c: Cursor) -> Answer<ExprHead>
     requires { length tokens.source.now ≤ source_limit }
     ensures { Ready tokens.entry.count c → t ≡ record_of (token_of tokens.entry.source.now t) → HeadReads tokens.entry.source.now tokens.entry.table.now tokens.entry.count c (head (checks_of jets.now) (token_of tokens.entry.source.now t ∷ tokens_left tokens.entry.source.now tokens.entry.table.now tokens.entry.count c.token.0)) result }
@@ -271,6 +279,7 @@ fn head_of(jets: &[u8], tokens: Tokens, t: TokenRecord, c: Cursor) -> Answer<Exp
 }
 
 // What begins at the cursor.
+#[tactic(auto, using(crate::proofs::Heads::headless))]
 pub fn expr_head(jets: &[u8], tokens: Tokens, c: Cursor) -> Answer<ExprHead>
     requires { length tokens.source.now ≤ source_limit }
     ensures { Ready tokens.entry.count c → HeadReads tokens.entry.source.now tokens.entry.table.now tokens.entry.count c (head (checks_of jets.now) (tokens_left tokens.entry.source.now tokens.entry.table.now tokens.entry.count c.token.0)) result }
