@@ -1,4 +1,3 @@
-pub mod Steps
 pub mod Trees
 pub mod Parses
 pub mod Once

@@ -24,6 +24,7 @@ pub enum CmrHead {
 }
 
 // Records a complete expression at its place, and answers with its number.
+#[tactic(auto, unfolding(crate::specs::Answers::completed, crate::specs::Answers::completed_table))]
 fn finish(exprs: &mut [u32], at: ByteOffset, p: Answer<ExprInner>) -> Answer<ExprNo>
     ensures answer { result ≡ completed p }
     ensures table { exprs.new ≡ completed_table at p exprs.old }
@@ -35,6 +36,7 @@ fn finish(exprs: &mut [u32], at: ByteOffset, p: Answer<ExprInner>) -> Answer<Exp
 }
 
 // What CMR begins at the cursor.
+#[tactic(auto, unfolding(crate::specs::Answers::cmr_head_by))]
 fn cmr_head(tokens: Tokens, c: Cursor) -> Answer<CmrHead>
     requires { length tokens.source.now ≤ source_limit }
     ensures { result ≡ cmr_head_by (length tokens.entry.source.now) c (tokens_left tokens.entry.source.now tokens.entry.table.now tokens.entry.count c.token.0) }
@@ -47,6 +49,7 @@ fn cmr_head(tokens: Tokens, c: Cursor) -> Answer<CmrHead>
 }
 
 // The CMR of an expression in braces.
+#[tactic(auto, unfolding(crate::specs::Answers::cmr_of))]
 fn braced(p: Answer<ExprNo>) -> Answer<Cmr>
     ensures { result ≡ cmr_of p }
 {
@@ -55,6 +58,7 @@ fn braced(p: Answer<ExprNo>) -> Answer<Cmr>
 }
 
 // A keyword with one expression,
+#[tactic(auto, unfolding(crate::specs::Answers::unary_by))]
 fn unary(kind: NodeKind, p: Answer<ExprNo>) -> Answer<ExprInner>
     ensures { result ≡ unary_by kind p }
 {
@@ -63,6 +67,7 @@ fn unary(kind: NodeKind, p: Answer<ExprNo>) -> Answer<ExprInner>
 }
 
 // with two, of which the left one is read,
+#[tactic(auto, unfolding(crate::specs::Answers::binary_by))]
 fn binary(kind: NodeKind, left: ExprNo, p: Answer<ExprNo>) -> Answer<ExprInner>
     ensures { result ≡ binary_by kind left p }
 {
@@ -71,6 +76,7 @@ fn binary(kind: NodeKind, left: ExprNo, p: Answer<ExprNo>) -> Answer<ExprInner>
 }
 
 // an assertion whose expression is read,
+#[tactic(auto, unfolding(crate::specs::Answers::assert_lby))]
 fn assert_left(e: ExprNo, p: Answer<Cmr>) -> Answer<ExprInner>
     ensures { result ≡ assert_lby e p }
 {
@@ -79,6 +85,7 @@ fn assert_left(e: ExprNo, p: Answer<Cmr>) -> Answer<ExprInner>
 }
 
 // and one whose CMR is.
+#[tactic(auto, unfolding(crate::specs::Answers::assert_rby))]
 fn assert_right(cmr: Cmr, p: Answer<ExprNo>) -> Answer<ExprInner>
     ensures { result ≡ assert_rby cmr p }
 {
