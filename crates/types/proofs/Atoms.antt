@@ -60,10 +60,6 @@ pub filled_stays : (x : Ty) (m : ℕ) (old new : List ℕ) → new ≡ filled ty
 filled_stays x m old new e = ap (beyond type_width) e ∙ filled_beyond type_width old m (type_rows x m)
 
 module _ (s t : List ℕ) (n : ℕ) where
-  -- a refusal on the way, behind what was filled before
-  pub later_refusal : (c d : Cursor) (x : Fault) (rest : List Token) (r : Answer TypeNo) (old mid new : List ℕ) → beyond type_width mid ≡ beyond type_width old → TypeReads s t n d (stop x rest) r mid new → TypeReads s t n c (stop x rest) r old new
-  later_refusal c d x rest r old mid new b h = (h.0, h.1 ∙ b)
-
   -- ---- atoms
 
   module _ (c : Cursor) (ready : Ready n c) where

@@ -14,8 +14,8 @@ use Rattle.cursor.specs.Tokens.{token_of}
 use Rattle.cursor.proofs.Entries.{choice_none}
 use Rattle.grammar.specs.Tree as tree
 use Rattle.grammar.specs.Tree.{present}
-use Rattle.grammar.specs.Rule.{go_on, entry, choice}
-use Rattle.grammar.specs.Grammar.{power_of, type_heads, type_head}
+use Rattle.grammar.specs.Rule.{got, go_on, entry, choice}
+use Rattle.grammar.specs.Grammar.{group, whole, power_of, type_heads, type_head}
 use Rattle.grammar.specs.Recorded.{type_weight, type_records}
 use Rattle.types.specs.declared.TypeInner.TheVariants.{Name, One, Two}
 use Rattle.types.specs.Answers.{type_record_by, LeafType, power_inner, power_head, HeadAt}
@@ -23,7 +23,7 @@ use Rattle.checks.specs.declared.Fault.{Fault}
 use Rattle.std.specs.Prelude.{Err, Ok, Result}
 use Rattle.cursor.specs.Cursor.{Answer}
 use Rattle.types.specs.declared.AtomHead.{AtomHead}
-use Rattle.types.specs.declared.AtomHead.TheVariants.{Absent, Group, Whole}
+use Rattle.types.specs.declared.AtomHead.TheVariants.{Whole}
 
 -- the types of one record
 leaf_one : LeafType tree.one One
@@ -50,13 +50,13 @@ module _ (source jets : List ℕ) (r : TokenRecord) (rest : List Token) (c : Cur
       let row : (m : ℕ) → type_records (tree.name t) m ≡ type_record_by (Name r.span) ∷ [] = λ m. ap (λ (q : TokenRecord). type_record_by (Name q.span) ∷ []) (sym f) in
       (tree.name t, rw e, record { here = refl; one = refl; row = row }, refl)
 
-  pub head_group : r.kind.0 ≡ token.number token.lparen → HeadAt jets t rest c (Ok (Group, c))
+  pub head_group : r.kind.0 ≡ token.number token.lparen → type_head (checks_of jets) (t ∷ rest) ≡ got group rest
   unfolding type_head choice entry go_on
-  head_group e = (rw e, refl)
+  head_group e = rw e
 
-  pub head_absent : r.kind.0 ≡ token.number token.underscore → HeadAt jets t rest c (Ok (Absent, c))
+  pub head_absent : r.kind.0 ≡ token.number token.underscore → type_head (checks_of jets) (t ∷ rest) ≡ got (whole tree.absent) rest
   unfolding type_head choice entry go_on
-  head_absent e = (rw e, refl)
+  head_absent e = rw e
 
   pub head_one : r.kind.0 ≡ token.number token.one → HeadAt jets t rest c (Ok (Whole One, c))
   unfolding type_head choice entry go_on
@@ -77,3 +77,6 @@ module _ (source jets : List ℕ) (r : TokenRecord) (rest : List Token) (c : Cur
   pub head_none : NotIn (28 ∷ 27 ∷ 29 ∷ 34 ∷ 26 ∷ 4 ∷ []) r.kind.0 → HeadAt jets t rest c (Err (record { fault = ParseFailed; at = r.span.start }))
   unfolding type_head go_on
   head_none h = (ParseFailed, rw (choice_none (type_heads (checks_of jets)) (28 ∷ 27 ∷ 29 ∷ 34 ∷ 26 ∷ 4 ∷ []) t rest refl h), refl)
+
+-- what begins at a token, by its kind
+pub ruleset by_kind = (head_group, head_absent, head_name, head_powered, head_one, head_two)

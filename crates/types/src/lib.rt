@@ -110,6 +110,7 @@ fn power_head(source: &[u8], span: Span, c: Cursor) -> Answer<AtomHead>
 }
 
 // What a token begins; c stands behind it.
+#[tactic(auto, using(crate::proofs::Heads::by_kind))]
 fn head_of(source: &[u8], t: TokenRecord, c: Cursor) -> Answer<AtomHead>
     ensures { (jets : List ℕ) (rest : List Token) → t ≡ record_of (token_of source.now t) → HeadAt jets (token_of source.now t) rest c result }
 {
@@ -128,6 +129,7 @@ fn head_of(source: &[u8], t: TokenRecord, c: Cursor) -> Answer<AtomHead>
 }
 
 // What begins an atom at the cursor.
+#[tactic(auto, using(crate::proofs::Steps::head_next))]
 fn type_head(tokens: Tokens, c: Cursor) -> Answer<AtomHead>
     requires { length tokens.source.now ≤ source_limit }
     ensures { (jets : List ℕ) → AtomHeadReads jets (length tokens.entry.source.now) c (tokens_left tokens.entry.source.now tokens.entry.table.now tokens.entry.count c.token.0) result }
@@ -139,6 +141,7 @@ fn type_head(tokens: Tokens, c: Cursor) -> Answer<AtomHead>
 }
 
 // The operator behind a type that was read, if there is one, with the type before it and the cursor behind it.
+#[tactic(auto, unfolding(crate::specs::Answers::operator_at))]
 fn next_operator(tokens: Tokens, p: Answer<TypeNo>) -> Option<(Op, TypeNo, Cursor)>
     ensures { result ≡ operator_at tokens.entry.source.now tokens.entry.table.now tokens.entry.count p }
 {
@@ -156,6 +159,7 @@ fn next_operator(tokens: Tokens, p: Answer<TypeNo>) -> Option<(Op, TypeNo, Curso
 }
 
 // The type of an operator and its operands: an absent one makes the whole absent.
+#[tactic(auto, unfolding(crate::specs::Answers::operator_read, crate::specs::Answers::joined_table))]
 fn join(types: &mut [u32], op: Op, left: TypeNo, p: Answer<TypeNo>) -> Answer<TypeNo>
     ensures answer { result ≡ operator_read left p }
     ensures table { types.new ≡ joined_table op left p types.old }
