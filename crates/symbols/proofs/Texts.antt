@@ -2,17 +2,13 @@
 use Rattle.std.specs.Prelude.{if◌then◌else◌}
 use Prim.Native.Nat.{ℕ, suc, ◌+◌, ◌-◌, ◌≤◌, ◌<◌}
 use mathlib.Core.Bool.{Bool, true, false}
-use mathlib.Core.Path.{◌≡◌, refl, sym, ap, ◌∙◌}
+use mathlib.Core.Path.{◌≡◌, refl, sym, ◌∙◌}
 use mathlib.Core.List.{List, [], ◌∷◌}
 use native.Mathlib.Omega.{arith}
 use lib.Dec.{eqb}
 use lib.Pointwise.{pointwise}
 use native.Mathlib.Numerals.{add-one}
 use Rattle.records.specs.Base.{bytes}
-use Rattle.records.specs.Limits.{name_width}
-use Rattle.records.specs.declared.Span.{Span}
-use Rattle.tables.specs.Tables.{span_at}
-use Rattle.literals.specs.Literals.{span_text}
 use Rattle.classes.specs.Classes.{word, starts}
 use Rattle.checks.specs.Jets.{same}
 use Rattle.symbols.specs.Symbols.{Text, illegal, find_from}
@@ -36,12 +32,6 @@ illegal_blank x r e f = rw (same_pointwise x (bytes "_"), ← e, f)
 pub illegal_prim : (x : Text) (b r : Bool) → b ≡ pointwise eqb x (bytes "_") → b ≡ false → r ≡ starts (word (bytes "prim")) x → r ≡ illegal x
 unfolding illegal
 illegal_prim x b r e f g = g ∙ rw (same_pointwise x (bytes "_"), ← e, f)
-
--- ---- a name's text
-
-pub text_of : (s t : List ℕ) (k : ℕ) (p : Span) (x : Text) → p ≡ span_at name_width t k 0 → x ≡ span_text s p → x ≡ name_text s t k
-unfolding name_text
-text_of s t k p x e f = f ∙ ap (span_text s) e
 
 -- ---- a text looked for, of n names from number i on
 

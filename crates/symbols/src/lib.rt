@@ -11,6 +11,7 @@ use records::numbers::NameNo;
 use records::{NameRecord, Span};
 
 // Whether no line may have this name: it is `_` or begins with `prim`.
+#[tactic(auto, using(crate::proofs::Texts::illegal_blank, crate::proofs::Texts::illegal_prim))]
 pub fn is_illegal(text: &[u8]) -> bool
     ensures { result ≡ illegal text.now }
 {
@@ -25,6 +26,7 @@ pub fn name_span(names: &[u32], number: NameNo) -> Span
 }
 
 // The text of a name, as the very part of the source.
+#[tactic(auto, unfolding(crate::specs::Texts::name_text))]
 fn name_text<'a>(source: &'a [u8], names: &[u32], number: NameNo) -> &'a [u8]
     ensures { result.now ≡ name_text source.now names.now number.0 }
 {
@@ -32,6 +34,7 @@ fn name_text<'a>(source: &'a [u8], names: &[u32], number: NameNo) -> &'a [u8]
 }
 
 // The number of the first name with this text; 0 if there is none.
+#[tactic(auto, using(crate::proofs::Texts::found_here, crate::proofs::Texts::found_later, crate::proofs::Texts::found_none))]
 pub fn find_name(source: &[u8], names: &[u32], count: u32, text: &[u8]) -> NameNo
     ensures { result.0 ≡ find_from 1 (texts_from source.now names.now 1 count) text.now }
 {
