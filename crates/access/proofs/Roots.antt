@@ -1,7 +1,8 @@
 -- The first root from a number on, step by step. Assumes nothing.
+use Rattle.std.specs.Prelude.{if◌then◌else◌}
 use Prim.Native.Nat.{ℕ, suc, ◌+◌, ◌-◌, ◌≤◌, ◌<◌, min}
 use mathlib.Core.Bool.{Bool, true, false}
-use mathlib.Core.Path.{◌≡◌, refl, sym, ◌∙◌}
+use mathlib.Core.Path.{◌≡◌, refl, sym}
 use mathlib.Core.List.{List}
 use native.Mathlib.Omega.{arith}
 use native.Mathlib.Numerals.{add-one}
@@ -22,19 +23,12 @@ module _ (names : List ℕ) (named : ℕ) (nodes : List ℕ) (made : ℕ) where
       let e : suc record_limit - k ≡ 0 = omega arith in
       rw e
 
-  module _ {k : ℕ} {b : Bool} (h : k ≤ record_limit) (e : b ≡ is_root_at names named nodes made k) where
-    one_less : suc record_limit - k ≡ suc (suc record_limit - (k + 1))
-    one_less = omega arith
-
-    -- or number k is a root,
-    pub first_here : b ≡ true → first_from k ≡ k
-    unfolding root_from
-    first_here t = rw (one_less, sym e ∙ t)
-
-    -- or it is none
-    pub first_later : b ≡ false → first_from k ≡ first_from (k + 1)
-    unfolding root_from
-    first_later t = rw (one_less, sym e ∙ t, add-one k)
+  -- or number k is a root, or it is none
+  pub first_step : {k : ℕ} → k ≤ record_limit → first_from k ≡ (if is_root_at names named nodes made k then k else first_from (k + 1))
+  unfolding root_from
+  first_step {k} h =
+      let e : suc record_limit - k ≡ suc (suc record_limit - (k + 1)) = omega arith in
+      rw (e, add-one k)
 
   -- behind a name is from the next number on, and none is behind the last
   pub next_from : (after : ℕ) {k : ℕ} → k ≡ min (after + 1) 4294967295 → next_root names named nodes made after ≡ first_from k

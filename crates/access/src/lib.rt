@@ -10,6 +10,7 @@ use records::numbers::NameNo;
 use records::{NameRecord, NodeRecord, Span};
 
 // A span as a part of a source of `size` bytes: itself if it lies inside, else an empty part.
+#[tactic(auto, unfolding(crate::specs::Access::part_in))]
 pub fn span_part(size: usize, span: Span) -> Span
     ensures { result ≡ part_in size span }
 {
@@ -21,6 +22,7 @@ pub fn span_part(size: usize, span: Span) -> Span
 }
 
 // The span of a name; none if there is no such name.
+#[tactic(auto, unfolding(crate::specs::Access::name_span))]
 fn name_span(names: &[u32], count: u32, number: NameNo) -> Span
     ensures { result ≡ name_span names.now count number.0 }
 {
@@ -39,6 +41,7 @@ pub fn name_part(source: &[u8], names: &[u32], count: u32, number: NameNo) -> Sp
 }
 
 // The text of a name, as the very part of the source.
+#[tactic(auto, unfolding(crate::specs::Access::name_text_of))]
 pub fn name_text<'a>(source: &'a [u8], names: &[u32], count: u32, number: NameNo) -> &'a [u8]
     ensures { result.now ≡ name_text_of source.now names.now count number.0 }
 {
@@ -54,6 +57,7 @@ fn is_node(len: usize, count: u32, number: u32) -> bool
 }
 
 // Whether the name is a root: its node has no parent.
+#[tactic(auto, unfolding(crate::specs::Access::is_root_at))]
 pub fn is_root(names: &[u32], named: u32, nodes: &[u32], made: u32, number: NameNo) -> bool
     ensures { result ≡ is_root_at names.now named nodes.now made number.0 }
 {
@@ -64,6 +68,7 @@ pub fn is_root(names: &[u32], named: u32, nodes: &[u32], made: u32, number: Name
 }
 
 // The first root behind the name `after`, 0 to begin; 0 if there is none.
+#[tactic(auto, using(crate::proofs::Roots::first_step, crate::proofs::Roots::first_none, crate::proofs::Roots::next_from))]
 pub fn next_root(names: &[u32], named: u32, nodes: &[u32], made: u32, after: NameNo) -> NameNo
     ensures { result.0 ≡ next_root names.now named nodes.now made after.0 }
 {
