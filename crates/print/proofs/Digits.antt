@@ -2,17 +2,18 @@
 -- have room. Assumes nothing.
 use Prim.Native.Nat.{ℕ, zero, suc, ◌+◌, ◌-◌, ◌/◌, ◌%◌, ◌≤◌, ◌<◌}
 use mathlib.Core.Path.{◌≡◌, refl}
-use mathlib.Core.List.{List, [], ◌∷◌, ◌++◌}
+use mathlib.Core.List.{[], ◌∷◌, ◌++◌}
 use native.Mathlib.Omega.{arith}
 use lib.ListN.{length, length-append}
 use borrow.Author.Tests.{lt-ltb, le-ltb}
-use Rattle.print.specs.Text.{digits, listing_limit, Puts}
-use Rattle.print.proofs.Putting.{puts_then}
+use Rattle.print.specs.declared.Output.{Output}
+use Rattle.print.specs.Text.{digits, listing_limit, Adds}
+use Rattle.print.proofs.Putting.{adds_then, adds_nothing}
 
 module _ (room n : ℕ) where
-  pub puts_none : (out : List ℕ) (at : ℕ) → room ≡ 0 → Puts (digits room n) out at out at
+  pub adds_none : (output : Output) → room ≡ 0 → Adds (digits room n) output output
   unfolding digits
-  puts_none out at e = rw e (record { written = refl; behind = omega arith })
+  adds_none output e = rw e (adds_nothing output)
 
   module _ (some : room ≡ 0 → ⊥) where
     digits_one : n < 10 → digits room n ≡ (48 + n) ∷ []
@@ -34,15 +35,15 @@ module _ (room n : ℕ) where
     pub fits_one : (at : ℕ) → n < 10 → at + length (digits room n) ≤ listing_limit → at < listing_limit
     fits_one at k h = omega (arith, rw (digits_one k) at h)
 
-    pub puts_one : {d at r : ℕ} {out out' : List ℕ} → n < 10 → d ≡ 48 + n → Puts (d ∷ []) out at out' r → Puts (digits room n) out at out' r
-    puts_one k e p = rw (digits_one k, ← e) p
+    pub adds_one : {d : ℕ} {old new : Output} → n < 10 → d ≡ 48 + n → Adds (d ∷ []) old new → Adds (digits room n) old new
+    adds_one k e p = rw (digits_one k, ← e) p
 
     pub fits_more : (at : ℕ) → 10 ≤ n → at + length (digits room n) ≤ listing_limit → at + length (digits (room - 1) (n / 10)) ≤ listing_limit
     fits_more at k h = omega (arith, simp length-append at (rw (digits_more k) at h))
 
-    module _ {at r : ℕ} {out mid : List ℕ} (k : 10 ≤ n) (p : Puts (digits (room - 1) (n / 10)) out at mid r) where
-      pub fits_last : at + length (digits room n) ≤ listing_limit → r < listing_limit
-      fits_last h = omega (arith, p.behind, simp length-append at (rw (digits_more k) at h))
+    module _ {old mid : Output} (k : 10 ≤ n) (p : Adds (digits (room - 1) (n / 10)) old mid) where
+      pub fits_last : old.at + length (digits room n) ≤ listing_limit → mid.at < listing_limit
+      fits_last h = omega (arith, p.puts.behind, simp length-append at (rw (digits_more k) at h))
 
-      pub puts_more : {d r' : ℕ} {out' : List ℕ} → d ≡ 48 + n % 10 → Puts (d ∷ []) mid r out' r' → Puts (digits room n) out at out' r'
-      puts_more e q = rw (digits_more k, ← e) (puts_then p q)
+      pub adds_more : {d : ℕ} {new : Output} → d ≡ 48 + n % 10 → Adds (d ∷ []) mid new → Adds (digits room n) old new
+      adds_more e q = rw (digits_more k, ← e) (adds_then p q)

@@ -1,13 +1,14 @@
 -- Texts put one behind the other are their sum put at once. Assumes nothing.
-use Prim.Native.Nat.{ℕ, suc, ◌+◌, ◌≤◌, ◌<◌}
-use mathlib.Core.Path.{◌≡◌, refl, sym, ◌∙◌}
+use Prim.Native.Nat.{ℕ, suc, ◌+◌, ◌≤◌}
+use mathlib.Core.Path.{◌≡◌, refl, ◌∙◌}
 use mathlib.Core.List.{List, [], ◌∷◌, ◌++◌}
 use native.Mathlib.Omega.{arith}
-use native.Mathlib.Numerals.{add-one}
 use native.Mathlib.Nat.{add-zero, zero-add}
-use lib.ListN.{length, get_or, set, drop, length-append, drop_of_length-le}
-use lib.Seq.{sets, sets-eq, drop-cons}
-use Rattle.print.specs.Text.{Puts}
+use lib.ListN.{length, set, drop, length-append}
+use lib.Seq.{sets, sets-eq}
+use Rattle.std.specs.Borrow.{MutBor}
+use Rattle.print.specs.declared.Output.{Output}
+use Rattle.print.specs.Text.{Puts, Begins, Adds}
 
 -- a store behind a run of stores
 pub sets_join : (a b out : List ℕ) (i : ℕ) → sets (sets out i a) (i + length a) b ≡ sets out i (a ++ b)
@@ -16,43 +17,43 @@ sets_join (x ∷ a) b out i =
     let e : i + suc (length a) ≡ suc i + length a = omega arith in
     rw e (sets_join a b (set out i x) (suc i))
 
-module _ {a out mid : List ℕ} {at r : ℕ} where
-  -- one text, and another behind it
-  pub puts_then : {b out' : List ℕ} {r' : ℕ} → Puts a out at mid r → Puts b mid r out' r' → Puts (a ++ b) out at out' r'
-  puts_then {b} p q = record {
-    written = q.written ∙ rw (p.written, p.behind) (sets_join a b out at);
-    behind = q.behind ∙ simp length-append (omega (arith, p.behind));
-  }
+-- one text, and another behind it
+puts_then : {a b out mid out' : List ℕ} {at r r' : ℕ} → Puts a out at mid r → Puts b mid r out' r' → Puts (a ++ b) out at out' r'
+puts_then {a} {b} {out} {mid} {out'} {at} p q = record {
+  written = q.written ∙ rw (p.written, p.behind) (sets_join a b out at);
+  behind = q.behind ∙ simp length-append (omega (arith, p.behind));
+}
+
+module _ {a : List ℕ} {old mid : Output} (p : Adds a old mid) where
+  pub adds_then : {b : List ℕ} {new : Output} → Adds b mid new → Adds (a ++ b) old new
+  adds_then q = record { puts = puts_then p.puts q.puts; same = q.same ∙ p.same }
 
   -- where two texts have room, the second has room behind the first
-  pub rest_fits : (limit : ℕ) (b : List ℕ) → Puts a out at mid r → at + length (a ++ b) ≤ limit → r + length b ≤ limit
-  rest_fits limit b p h = omega (arith, p.behind, simp length-append at h)
+  pub rest_fits : (limit : ℕ) (b : List ℕ) → old.at + length (a ++ b) ≤ limit → mid.at + length b ≤ limit
+  rest_fits limit b h = omega (arith, p.puts.behind, simp length-append at h)
 
 -- and the first has room
 pub first_fits : (limit at : ℕ) (a b : List ℕ) → at + length (a ++ b) ≤ limit → at + length a ≤ limit
 first_fits limit at a b h = omega (arith, simp length-append at h)
 
--- ---- byte by byte: out is the output now, out₀ what it was
+-- nothing is put
+pub adds_nothing : (output : Output) → Adds [] output output
+adds_nothing output = record { puts = record { written = refl; behind = omega arith }; same = refl }
 
-module _ (text out₀ : List ℕ) (at : ℕ) where
-  pub Putting : (out : List ℕ) (i : ℕ) → Type 0
-  Putting out i = sets out₀ at text ≡ sets out (at + i) (drop i text)
+-- ---- byte by byte
 
-  pub putting_none : Putting out₀ 0
-  unfolding Putting
-  putting_none = rw add-zero
-
-  pub putting_more : (out new : List ℕ) (i : ℕ) → i < length text → new ≡ set out (at + i) (get_or text i 0) → Putting out i → Putting new (i + 1)
-  unfolding Putting
-  putting_more out new i k e s =
-      let z : at + suc i ≡ suc (at + i) = omega arith in
-      s ∙ rw (e, add-one i, z, drop-cons text i 0 k)
-
-  pub putting_done : (out : List ℕ) (i : ℕ) → length text ≤ i → Putting out i → Puts text out₀ at out (at + length text)
-  unfolding Putting
-  putting_done out i k s = record { written = sym (s ∙ rw (drop_of_length-le text k)); behind = refl }
+module _ (text : List ℕ) (old : Output) where
+  -- what is still to be put from `at` on, put into the output as it is now, gives the whole
+  pub record Putting (now : Output) (i : ℕ) : Type 0 where
+    pub left : sets old.out.now old.at text ≡ sets now.out.now (old.at + i) (drop i text)
+    pub stays : now.at ≡ old.at
+    pub same : now.out.ghost_name ≡ old.out.ghost_name
 
 -- ---- from the front on
+
+-- what was put since an output began stands at the front of what was lent
+pub whole_puts : {lent : MutBor (List ℕ)} {text out' : List ℕ} {first last : Output} {r : ℕ} → Begins lent first → Adds text first last → out' ≡ last.out.now → r ≡ last.at → Puts text lent.now 0 out' r
+whole_puts b p e f = rw (b.whole, b.front, ← e, ← f) at p.puts
 
 -- where there is room: the text, and then what there was
 pub sets_front : (text out : List ℕ) → length text ≤ length out → sets out 0 text ≡ text ++ drop (length text) out

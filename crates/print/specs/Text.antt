@@ -2,7 +2,9 @@
 use Rattle.std.specs.Prelude.{ℕ, zero, suc, ◌+◌, ◌/◌, ◌%◌, ◌≡◌, List, [], ◌∷◌, ◌++◌, ltb, length, if◌then◌else◌}
 use Rattle.std.proofs.lemmas.List.Edits.{sets}
 use Rattle.records.specs.Base.{bytes}
+use Rattle.std.specs.Borrow.{MutBor}
 use Rattle.text.specs.declared.Position.{Position}
+use Rattle.print.specs.declared.Output.{Output}
 
 -- the decimal digits of n, if it has no more than so many
 unfoldable pub digits : (room n : ℕ) → List ℕ
@@ -35,3 +37,14 @@ listing_limit = 196608
 pub record Puts (text out : List ℕ) (at : ℕ) (out' : List ℕ) (r : ℕ) : Type 0 where
   pub written : out' ≡ sets out at text
   pub behind : r ≡ at + length text
+
+-- An output begins at the front of what is lent, by that same reference.
+pub record Begins (lent : MutBor (List ℕ)) (output : Output) : Type 0 where
+  pub whole : output.out.now ≡ lent.now
+  pub front : output.at ≡ 0
+  pub same : output.out.ghost_name ≡ lent.ghost_name
+
+-- The text was put into the output, and its reference is still the same.
+pub record Adds (text : List ℕ) (old new : Output) : Type 0 where
+  pub puts : Puts text old.out.now old.at new.out.now new.at
+  pub same : new.out.ghost_name ≡ old.out.ghost_name

@@ -1,10 +1,10 @@
-// Text put into a lent output, piece by piece. What would stand past the output's end is left out, so that the same functions find out
+// A lent output, into which text is put piece by piece. What would stand past its end is left out, so that the same methods find out
 // how long a text is.
 #![tactic(auto)]
 
 ghost use Rattle.std.specs.Prelude.{◌≡◌, [], ◌∷◌, ◌+◌, ◌≤◌, ◌<◌, length, set};
 ghost use Rattle.text.specs.Place.{position_of};
-ghost use Rattle.print.specs.Text.{digits, decimal, place_word, listing_limit, Puts};
+ghost use Rattle.print.specs.Text.{digits, decimal, place_word, listing_limit, Begins, Adds};
 
 // No listing has more bytes.
 pub const LISTING: usize = 196608;
@@ -13,6 +13,13 @@ pub const LISTING: usize = 196608;
 const MOST_DIGITS: usize = 20;
 
 const RADIX: usize = 10;
+
+// A lent output, and the place in it where the next text goes.
+#[derive(Drop)]
+pub struct Output<'a> {
+    out: &'a mut [u8],
+    at: usize,
+}
 
 // Stores a byte; past the end nothing. A test of the index is as plain here as `get_mut`.
 fn store(out: &mut [u8], at: usize, byte: u8)
@@ -23,26 +30,6 @@ fn store(out: &mut [u8], at: usize, byte: u8)
     }
 }
 
-// Writes one byte and answers the place behind it.
-pub fn put_byte(out: &mut [u8], at: usize, byte: u8) -> usize
-    requires { at < listing_limit }
-    ensures { Puts (byte ∷ []) out.old at out.new result }
-{
-    store(out, at, byte);
-    at + 1
-}
-
-// Writes a text from `at` on and answers the place behind it.
-pub fn put(out: &mut [u8], at: usize, text: &[u8]) -> usize
-    requires { at + length text.now ≤ listing_limit }
-    ensures { Puts text.now out.old at out.new result }
-{
-    for (i, byte) in text.iter().enumerate() {
-        store(out, at + i, *byte);
-    }
-    at + text.len()
-}
-
 // The digit of a number below ten.
 fn digit(number: usize) -> u8
     requires { number < 10 }
@@ -51,36 +38,73 @@ fn digit(number: usize) -> u8
     b'0' + number as u8
 }
 
-// Writes a number's decimal digits, if it has no more than so many.
-fn put_digits(out: &mut [u8], at: usize, room: usize, number: usize) -> usize
-    requires { at + length (digits room number) ≤ listing_limit }
-    ensures { Puts (digits room number) out.old at out.new result }
-{
-    if room == 0 {
-        return at;
+impl<'a> Output<'a> {
+    // Begins at the front of what is lent.
+    pub fn new(out: &'a mut [u8]) -> Output<'a>
+        ensures { Begins out.entry result }
+    {
+        Output { out, at: 0 }
     }
-    if number < RADIX {
-        return put_byte(out, at, digit(number));
+
+    // The place where the next text goes: how long the text is that was put.
+    pub fn place(&self) -> usize
+        ensures { result ≡ self.now.at }
+    {
+        self.at
     }
-    let behind = put_digits(out, at, room - 1, number / RADIX);
-    put_byte(out, behind, digit(number % RADIX))
-}
 
-// Writes a number in decimal digits.
-pub fn put_decimal(out: &mut [u8], at: usize, number: usize) -> usize
-    requires { at + length (decimal number) ≤ listing_limit }
-    ensures { Puts (decimal number) out.old at out.new result }
-{
-    put_digits(out, at, MOST_DIGITS, number)
-}
+    // Puts one byte.
+    pub fn put_byte(&mut self, byte: u8)
+        requires { self.old.at < listing_limit }
+        ensures { Adds (byte ∷ []) self.old self.new }
+    {
+        store(self.out, self.at, byte);
+        self.at += 1;
+    }
 
-// Writes the line and column of an offset.
-pub fn put_place(out: &mut [u8], at: usize, source: &[u8], offset: usize) -> usize
-    requires { at + length (place_word (position_of source.now offset)) ≤ listing_limit }
-    ensures { Puts (place_word (position_of source.now offset)) out.old at out.new result }
-{
-    let place = text::offset_to_position(source, offset);
-    let at = put_decimal(out, at, place.line);
-    let at = put_byte(out, at, b':');
-    put_decimal(out, at, place.column)
+    // Puts a text.
+    pub fn put(&mut self, text: &[u8])
+        requires { self.old.at + length text.now ≤ listing_limit }
+        ensures { Adds text.now self.old self.new }
+    {
+        for (i, byte) in text.iter().enumerate() {
+            store(self.out, self.at + i, *byte);
+        }
+        self.at += text.len();
+    }
+
+    // Puts a number's decimal digits, if it has no more than so many.
+    fn put_digits(&mut self, room: usize, number: usize)
+        requires { self.old.at + length (digits room number) ≤ listing_limit }
+        ensures { Adds (digits room number) self.old self.new }
+    {
+        if room == 0 {
+            return;
+        }
+        if number < RADIX {
+            self.put_byte(digit(number));
+        } else {
+            self.put_digits(room - 1, number / RADIX);
+            self.put_byte(digit(number % RADIX));
+        }
+    }
+
+    // Puts a number in decimal digits.
+    pub fn put_decimal(&mut self, number: usize)
+        requires { self.old.at + length (decimal number) ≤ listing_limit }
+        ensures { Adds (decimal number) self.old self.new }
+    {
+        self.put_digits(MOST_DIGITS, number);
+    }
+
+    // Puts the line and column of an offset.
+    pub fn put_place(&mut self, source: &[u8], offset: usize)
+        requires { self.old.at + length (place_word (position_of source.now offset)) ≤ listing_limit }
+        ensures { Adds (place_word (position_of source.now offset)) self.old self.new }
+    {
+        let place = text::offset_to_position(source, offset);
+        self.put_decimal(place.line);
+        self.put_byte(b':');
+        self.put_decimal(place.column);
+    }
 }

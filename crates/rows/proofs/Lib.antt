@@ -1,6 +1,5 @@
 pub mod Room
 pub mod Pieces
-pub mod Places
 pub mod Single
 pub mod Many
 pub mod Held

@@ -6,16 +6,18 @@ use mathlib.Core.Path.{◌≡◌, sym, ◌∙◌}
 use mathlib.Core.List.{List}
 use native.Mathlib.Omega.{arith}
 use native.Mathlib.Numerals.{add-one}
-use Rattle.print.specs.Text.{Puts}
+use Rattle.print.specs.declared.Output.{Output}
+use Rattle.print.specs.Text.{Adds}
+use Rattle.print.proofs.Putting.{adds_nothing}
 use Rattle.rows.specs.Words.{◌then◌, Room, rows_from, count_from}
-use Rattle.rows.proofs.Pieces.{first_fits, rest_fits, puts_then, same_puts, same_fits, puts_nothing}
+use Rattle.rows.proofs.Pieces.{first_fits, rest_fits, adds_then, same_adds, same_fits}
 
 -- ---- rows
 
 -- Of the rows 1 to n those before i are put: what is left has room, and put into the output as it is now, gives the whole.
-pub record RowsLeft (f : ℕ → List ℕ) (n : ℕ) (out₀ : List ℕ) (at₀ i : ℕ) (out : List ℕ) (at : ℕ) : Type 0 where
-  pub room : Room at (rows_from f (suc n - i) i)
-  pub gives : (out' : List ℕ) (r : ℕ) → Puts (rows_from f (suc n - i) i) out at out' r → Puts (rows_from f n 1) out₀ at₀ out' r
+pub record RowsLeft (f : ℕ → List ℕ) (n : ℕ) (old : Output) (i : ℕ) (now : Output) : Type 0 where
+  pub room : Room now (rows_from f (suc n - i) i)
+  pub gives : (new : Output) → Adds (rows_from f (suc n - i) i) now new → Adds (rows_from f n 1) old new
 
 -- one row, and those behind it
 next_row : (f : ℕ → List ℕ) (n i : ℕ) → i ≤ n → rows_from f (suc n - i) i ≡ f i then rows_from f (suc n - (i + 1)) (i + 1)
@@ -25,26 +27,26 @@ next_row f n i h =
     rw (e, add-one i)
 
 module _ {f : ℕ → List ℕ} {n : ℕ} where
-  pub rows_none : {out : List ℕ} {at : ℕ} → Room at (rows_from f n 1) → RowsLeft f n out at 1 out at
+  pub rows_none : {old : Output} → Room old (rows_from f n 1) → RowsLeft f n old 1 old
   rows_none h =
       let e : suc n - 1 ≡ n = omega arith in
-      record { room = rw e h; gives = λ out' r p. rw e at p }
+      record { room = rw e h; gives = λ new p. rw e at p }
 
-  module _ {out₀ out : List ℕ} {at₀ i at : ℕ} (left : RowsLeft f n out₀ at₀ i out at) where
-    pub rows_next : i ≤ n → Room at (f i)
+  module _ {old now : Output} {i : ℕ} (left : RowsLeft f n old i now) where
+    pub rows_next : i ≤ n → Room now (f i)
     rows_next h = first_fits _ (same_fits (next_row f n i h) left.room)
 
-    pub rows_more : {out' : List ℕ} {r : ℕ} → i ≤ n → Puts (f i) out at out' r → RowsLeft f n out₀ at₀ (i + 1) out' r
+    pub rows_more : {new : Output} → i ≤ n → Adds (f i) now new → RowsLeft f n old (i + 1) new
     rows_more h p = record {
       room = rest_fits p (same_fits (next_row f n i h) left.room);
-      gives = λ out'' r' q. left.gives out'' r' (same_puts (next_row f n i h) (puts_then p q));
+      gives = λ last q. left.gives last (same_adds (next_row f n i h) (adds_then p q));
     }
 
-    pub rows_done : n < i → Puts (rows_from f n 1) out₀ at₀ out at
+    pub rows_done : n < i → Adds (rows_from f n 1) old now
     unfolding rows_from
     rows_done h =
         let e : suc n - i ≡ 0 = omega arith in
-        left.gives out at (rw e (puts_nothing out at))
+        left.gives now (rw e (adds_nothing now))
 
 -- ---- counting
 

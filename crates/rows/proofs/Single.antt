@@ -36,6 +36,10 @@ module _ (name_of : ℕ → List ℕ) (n : ℕ) where
 
 -- ---- nodes
 
+-- number, kind and name, where the kind's word is known
+pub front_pieces : (number name : List ℕ) (k : ℕ) {w : List ℕ} → w ≡ node_word k → number then ended (node_word k) 32 then name ≡ number then ended w 32 then name
+front_pieces number name k e = rw e
+
 module _ (source names : List ℕ) (named : ℕ) (nodes : List ℕ) (i : ℕ) where
   -- number, kind, name; then place, left, right
   pub node_pieces : {k s n l r : ℕ} → k ≡ word_at node_width nodes i 0 → s ≡ word_at node_width nodes i 1 → n ≡ word_at node_width nodes i 2 → l ≡ word_at node_width nodes i 3 → r ≡ word_at node_width nodes i 4
@@ -62,11 +66,11 @@ module _ (source names : List ℕ) (named : ℕ) (nodes : List ℕ) (made i : �
 
 module _ (source errors : List ℕ) (i : ℕ) where
   -- kind, place, name
-  pub error_pieces : {k s : ℕ} {n : Span} {t : List ℕ} → k ≡ word_at error_width errors i 0 → s ≡ word_at error_width errors i 1 → n ≡ span_at error_width errors i 2
-      → t ≡ span_text source n
-      → error_row_at source errors i ≡ ended (error_word k) 32 then ended (place_word (position_of source s)) 32 then ended t 10
+  pub error_pieces : {k s : ℕ} {w : List ℕ} {n : Span} {t : List ℕ} → k ≡ word_at error_width errors i 0 → w ≡ error_word k → s ≡ word_at error_width errors i 1
+      → n ≡ span_at error_width errors i 2 → t ≡ span_text source n
+      → error_row_at source errors i ≡ ended w 32 then ended (place_word (position_of source s)) 32 then ended t 10
   unfolding error_row_at error_row printed_row ◌then◌
-  error_pieces ek es en et = rw (et, ek, es, en) (simp append_assoc)
+  error_pieces ek ew es en et = rw (et, ew, ek, es, en) (simp append_assoc)
 
 -- ---- refusals
 

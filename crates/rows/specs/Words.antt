@@ -5,10 +5,10 @@ use Rattle.records.specs.Base.{bytes}
 use Rattle.records.specs.Limits.{error_width}
 use Rattle.records.specs.declared.ErrorRecord.{ErrorRecord}
 use Rattle.tables.specs.Tables.{word_at, span_at}
-use Rattle.literals.specs.Literals.{span_text}
 use Rattle.resolve.specs.Words.{node_at}
 use Rattle.access.specs.Access.{name_text_of, is_root_at}
-use Rattle.print.specs.Text.{decimal, printed_row, listing_limit, Puts}
+use Rattle.print.specs.declared.Output.{Output}
+use Rattle.print.specs.Text.{decimal, printed_row, listing_limit, Adds}
 use Rattle.rows.specs.Rows.{head_row, node_row, error_row}
 
 -- ---- pieces of text
@@ -22,13 +22,9 @@ a then b = a ++ b
 abbrev pub ended : (word : List ℕ) → (end : ℕ) → List ℕ
 ended w e = w then (e ∷ [])
 
--- there is room for the text from `at` on
-pub record Room (at : ℕ) (text : List ℕ) : Type 0 where
-  pub fits : at + length text ≤ listing_limit
-
--- a word of a text by its number; two words of the table say where each stands: start and length
-unfoldable pub word_no : (words places : List ℕ) → (number : ℕ) → List ℕ
-word_no words places n = span_text words (span_at 2 places n 0)
+-- the text may be put into the output: no listing is longer
+pub record Room (output : Output) (text : List ℕ) : Type 0 where
+  pub fits : output.at + length text ≤ listing_limit
 
 -- ---- rows one by one
 
@@ -37,14 +33,13 @@ unfoldable pub rows_from : (row_of : ℕ → List ℕ) → (count i : ℕ) → L
 rows_from row_of zero i = []
 rows_from row_of (suc c) i = row_of i then rows_from row_of c (suc i)
 
--- so many rows from number 1 on may be written where there is room
-abbrev pub MayPut : (pre : MutBor (List ℕ) → ℕ → ℕ → Type 0) → (row_of : ℕ → List ℕ) → (count : ℕ) → Type 0
-MayPut pre row_of count = (out : MutBor (List ℕ)) (at i : ℕ) → 1 ≤ i → i ≤ count → Room at (row_of i) → pre out at i
+-- so many rows from number 1 on may be put where there is room
+abbrev pub MayPut : (pre : MutBor Output → ℕ → Type 0) → (row_of : ℕ → List ℕ) → (count : ℕ) → Type 0
+MayPut pre row_of count = (output : MutBor Output) (i : ℕ) → 1 ≤ i → i ≤ count → Room output.now (row_of i) → pre output i
 
--- and each writes its text
-abbrev pub PutsRows : (post : MutBor (List ℕ) → ℕ → ℕ → ℕ → MutBor (List ℕ) → Type 0) → (row_of : ℕ → List ℕ) → (count : ℕ) → Type 0
-PutsRows post row_of count =
-    (out out' : MutBor (List ℕ)) (at i r : ℕ) → 1 ≤ i → i ≤ count → post out at i r out' → Puts (row_of i) out.now at out'.now r
+-- and each puts its text
+abbrev pub AddsRows : (post : MutBor Output → ℕ → Unit {0} → MutBor Output → Type 0) → (row_of : ℕ → List ℕ) → (count : ℕ) → Type 0
+AddsRows post row_of count = (old new : MutBor Output) (i : ℕ) → 1 ≤ i → i ≤ count → post old i tt new → Adds (row_of i) old.now new.now
 
 -- how many of so many numbers from i on pass a test
 unfoldable pub count_from : (test : ℕ → Bool) → (count i : ℕ) → ℕ

@@ -23,10 +23,8 @@ unfolding read_into short_to_read_by ast.short_to_parse_by
 own_tables source jets ts ls es ty ns xs rs ws a b c d e f g h = rw (a, b, c, d, e, f, g, h)
 
 -- a refused jet list: there is room for the words, or none
-pub refused_all : (out out' : List ℕ) (n : ℕ) → 13 ≤ length out → Puts refused_jets out 0 out' n → (Some 13 ≡ list_answer refused_jets (length out)) × (out' ≡ listed_in refused_jets out)
-refused_all out out' n h p =
-    let size : n ≡ 13 = omega (arith, p.behind) in
-    rw size at (listed_all refused_jets out out' n true (sym (le-leb 13 (length out) h)) refl p)
+pub refused_all : (out out' : List ℕ) (n : ℕ) → 13 ≤ length out → Puts refused_jets out 0 out' n → (Some n ≡ list_answer refused_jets (length out)) × (out' ≡ listed_in refused_jets out)
+refused_all out out' n h p = listed_all refused_jets out out' n true (sym (le-leb 13 (length out) h)) refl p
 
 pub refused_none : (out : List ℕ) → length out < 13 → (None ≡ list_answer refused_jets (length out)) × (out ≡ listed_in refused_jets out)
 refused_none out h = listed_none refused_jets out false (sym (lt-leb 13 (length out) h)) refl

@@ -7,6 +7,7 @@ ghost use Rattle.reader.specs.Reading.{reading};
 ghost use Rattle.listing.specs.Listing.{listing, list_answer, listed_in};
 ghost use Rattle.sheets.specs.Sheet.{refused_jets, sheet, bytes_of};
 
+use print::Output;
 use records::limits::Limits;
 use records::{
     ErrorRecord, ExprRecord, LineRecord, NameRecord, NodeRecord, TokenRecord, TypeRecord,
@@ -57,8 +58,9 @@ fn refuse_jets(out: &mut [u8]) -> Option<usize>
     if out.len() < REFUSED {
         None
     } else {
-        print::put(out, 0, b"refused jets\n");
-        Some(REFUSED)
+        let mut output = Output::new(out);
+        output.put(b"refused jets\n");
+        Some(output.place())
     }
 }
 

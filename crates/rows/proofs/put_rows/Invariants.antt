@@ -3,4 +3,4 @@ use Rattle.rows.proofs.Many.{RowsLeft}
 use Rattle.rows.proofs.put_rows.Given as goal
 
 abbrev pub invariant-loop-number : goal.invariant-loop-number
-invariant-loop-number g l = RowsLeft g.row_of l.count l.initial.out l.at l.number l.out l.behind
+invariant-loop-number g l = RowsLeft g.row_of l.count l.initial.out l.number l.out

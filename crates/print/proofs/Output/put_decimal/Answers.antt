@@ -1,6 +1,6 @@
--- `print::put_decimal` meets its contract: `decimal` is `digits` with room for twenty.
+-- `Output::put_decimal` meets its contract: `decimal` is `digits` with room for twenty.
 use Rattle.print.specs.Text.{decimal}
-use Rattle.print.proofs.put_decimal.Goals as goal
+use Rattle.print.proofs.Output.put_decimal.Goals as goal
 
 pub put_digits-requires : goal.put_digits-requires
 unfolding decimal
