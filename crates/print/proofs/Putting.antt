@@ -40,15 +40,6 @@ first_fits limit at a b h = omega (arith, simp length-append at h)
 pub adds_nothing : (output : Output) → Adds [] output output
 adds_nothing output = record { puts = record { written = refl; behind = omega arith }; same = refl }
 
--- ---- byte by byte
-
-module _ (text : List ℕ) (old : Output) where
-  -- what is still to be put from `at` on, put into the output as it is now, gives the whole
-  pub record Putting (now : Output) (i : ℕ) : Type 0 where
-    pub left : sets old.out.now old.at text ≡ sets now.out.now (old.at + i) (drop i text)
-    pub stays : now.at ≡ old.at
-    pub same : now.out.ghost_name ≡ old.out.ghost_name
-
 -- ---- from the front on
 
 -- what was put since an output began stands at the front of what was lent

@@ -2,7 +2,7 @@
 // how long a text is.
 #![tactic(auto)]
 
-ghost use Rattle.std.specs.Prelude.{◌≡◌, [], ◌∷◌, ◌+◌, ◌≤◌, ◌<◌, length, set};
+ghost use Rattle.std.specs.Prelude.{◌≡◌, [], ◌∷◌, ◌+◌, ◌≤◌, ◌<◌, length};
 ghost use Rattle.text.specs.Place.{position_of};
 ghost use Rattle.print.specs.Text.{digits, decimal, place_word, listing_limit, Begins, Adds};
 
@@ -19,15 +19,6 @@ const RADIX: usize = 10;
 pub struct Output<'a> {
     out: &'a mut [u8],
     at: usize,
-}
-
-// Stores a byte; past the end nothing. A test of the index is as plain here as `get_mut`.
-fn store(out: &mut [u8], at: usize, byte: u8)
-    ensures { out.new ≡ set out.old at byte }
-{
-    if at < out.len() {
-        out[at] = byte;
-    }
 }
 
 // The digit of a number below ten.
@@ -58,8 +49,7 @@ impl<'a> Output<'a> {
         requires { self.old.at < listing_limit }
         ensures { Adds (byte ∷ []) self.old self.new }
     {
-        store(self.out, self.at, byte);
-        self.at += 1;
+        self.put(&[byte]);
     }
 
     // Puts a text.
@@ -67,9 +57,7 @@ impl<'a> Output<'a> {
         requires { self.old.at + length text.now ≤ listing_limit }
         ensures { Adds text.now self.old self.new }
     {
-        for (i, byte) in text.iter().enumerate() {
-            store(self.out, self.at + i, *byte);
-        }
+        tables::put(self.out, self.at, text);
         self.at += text.len();
     }
 
