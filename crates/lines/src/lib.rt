@@ -24,6 +24,7 @@ pub enum LineHead {
 }
 
 // What follows the name of a line.
+#[tactic(auto, unfolding(crate::specs::Answers::tail_by))]
 fn line_tail(tokens: Tokens, name: Span, c: Cursor) -> Answer<LineHead>
     requires { length tokens.source.now ≤ source_limit }
     ensures { result ≡ tail_by (length tokens.entry.source.now) name c (tokens_left tokens.entry.source.now tokens.entry.table.now tokens.entry.count c.token.0) }
@@ -36,6 +37,7 @@ fn line_tail(tokens: Tokens, name: Span, c: Cursor) -> Answer<LineHead>
 }
 
 // What begins a line at the cursor. A name is a symbol or `_`.
+#[tactic(auto, using(crate::proofs::Steps::head_name), unfolding(crate::specs::Answers::line_head_by))]
 fn line_head(tokens: Tokens, c: Cursor) -> Answer<LineHead>
     requires { length tokens.source.now ≤ source_limit }
     ensures { result ≡ line_head_by (length tokens.entry.source.now) c (tokens_left tokens.entry.source.now tokens.entry.table.now tokens.entry.count c.token.0) }
@@ -47,6 +49,7 @@ fn line_head(tokens: Tokens, c: Cursor) -> Answer<LineHead>
 }
 
 // A line with its name, its expression (0 for none) and its arrow.
+#[tactic(auto, unfolding(crate::specs::Answers::line_by))]
 fn line_of(name: Span, expr: ExprNo, p: Answer<(TypeNo, TypeNo)>) -> Answer<LineRecord>
     ensures { result ≡ line_by name expr p }
 {
