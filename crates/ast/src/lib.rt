@@ -18,6 +18,7 @@ use records::numbers::{ExprNo, TokenNo, TypeNo};
 use records::{ExprRecord, LineRecord, TokenRecord, TypeRecord};
 
 // Sets the records of the tables of lines, expressions and types, which have room, to zero.
+#[tactic(auto, using(tables::proofs::Laws::table_cleared))]
 fn clear_parsed(lines: &mut [u32], exprs: &mut [u32], types: &mut [u32])
     requires { (record_limit * line_width ≤ length lines.old) × (record_limit * expr_width ≤ length exprs.old) × (record_limit * type_width ≤ length types.old) }
     ensures lines { lines.new ≡ table_of line_width [] lines.old }
@@ -73,6 +74,7 @@ pub fn parse_tokens(
 }
 
 // Whether a table of so many words is too short for its records.
+#[tactic(auto, unfolding(crate::specs::Parsing::short_to_parse_by))]
 fn is_short(tokens: usize, lines: usize, exprs: usize, types: usize) -> bool
     ensures { result ≡ short_to_parse_by tokens lines exprs types }
 {
@@ -83,6 +85,7 @@ fn is_short(tokens: usize, lines: usize, exprs: usize, types: usize) -> bool
 }
 
 // Parses the tokens of a source that has lexed. A refusal sets the records of the tokens to zero too.
+#[tactic(auto, using(crate::proofs::Whole::kept_refused))]
 fn parse_lexed(
     source: &[u8],
     jets: &[u8],
