@@ -15,6 +15,7 @@ use records::limits::Limits;
 use records::{ErrorRecord, NameRecord, NodeRecord, WorkRecord};
 
 // Whether a table of so many words is too short for its records.
+#[tactic(auto, unfolding(crate::specs::Reading::short_to_read_by))]
 fn is_short(names: usize, nodes: usize, errors: usize, work: usize) -> bool
     ensures { result ≡ short_to_read_by names nodes errors work }
 {
@@ -25,6 +26,7 @@ fn is_short(names: usize, nodes: usize, errors: usize, work: usize) -> bool
 }
 
 // Sets the records of the four tables behind the parser's, which have room, to zero.
+#[tactic(auto, using(tables::proofs::Laws::table_cleared))]
 fn clear_resolved(names: &mut [u32], nodes: &mut [u32], errors: &mut [u32], work: &mut [u32])
     requires { (record_limit * name_width ≤ length names.old) × (record_limit * node_width ≤ length nodes.old) × (record_limit * error_width ≤ length errors.old) × (record_limit * work_width ≤ length work.old) }
     ensures names { names.new ≡ table_of name_width [] names.old }
