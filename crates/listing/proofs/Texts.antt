@@ -6,7 +6,7 @@ use mathlib.Core.List.{List}
 use lib.ListN.{length}
 use native.Mathlib.Omega.{arith}
 use lib.Dec.{leb}
-use borrow.Author.Tests.{le-leb, leb-true}
+use borrow.Author.Tests.{leb-true}
 use Rattle.records.specs.declared.refusals.Refusal.{Refusal}
 use Rattle.print.specs.Text.{listing_limit, Puts}
 use Rattle.print.proofs.Putting.{sets_front}
@@ -68,10 +68,6 @@ pub puts_same : (t u out out' : List ℕ) (r : ℕ) → t ≡ u → Puts u out 0
 puts_same t u out out' r e p = subst (λ (v : List ℕ). Puts v out 0 out' r) (sym e) p
 
 -- ---- the output
-
--- more room than any listing needs
-pub room_enough : (n room : ℕ) → n ≤ listing_limit → listing_limit ≤ room → true ≡ leb n room
-room_enough n room a b = sym (le-leb n room (omega arith))
 
 pub listed_all : (text out out' : List ℕ) (n : ℕ) (b : Bool) → b ≡ leb (length text) (length out) → b ≡ true → Puts text out 0 out' n → (Some n ≡ list_answer text (length out)) × (out' ≡ listed_in text out)
 unfolding list_answer listed_in

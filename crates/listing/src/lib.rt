@@ -11,6 +11,7 @@ use ends::{ParseError, ReadCounts};
 use records::refusals::Cause;
 
 // Writes what is listed for an answer and its tables, from the output's start on, as far as there is room; answers how long it is.
+#[tactic(auto, using(crate::proofs::Texts::text_read, crate::proofs::Texts::text_refused, crate::proofs::Texts::puts_same))]
 fn list_answer(
     source: &[u8],
     answer: Result<ReadCounts, ParseError>,
