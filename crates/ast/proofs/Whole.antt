@@ -150,10 +150,6 @@ module _ (source jets ts ls es ty : List ℕ) where
 -- ---- the table of tokens after parsing
 
 module _ (end : ℕ) (us : List Token) (table : List ℕ) where
-  pub kept_read : (P : Parsed (List Line)) (r : Result Counts ParseRefusal) (n : Counts) → r ≡ end_by end us P → r ≡ Ok n → table ≡ tokens_kept P table
-  kept_read (got ls q) r n e f = refl
-  kept_read (stop x q) r n e f = absurd (let z : ◌≡◌ {A = ℕ} 0 1 = cc in omega arith)
-
   pub kept_refused : (P : Parsed (List Line)) (r : Result Counts ParseRefusal) (x : ParseRefusal) (new : List ℕ) → record_limit * token_width ≤ length table → r ≡ end_by end us P → r ≡ Err x → new ≡ take (length table) (table_of token_width [] table) → new ≡ tokens_kept P table
   kept_refused (got ls q) r x new room e f g = absurd (let z : ◌≡◌ {A = ℕ} 0 1 = cc in omega arith)
   kept_refused (stop y q) r x new room e f g = g ∙ table_cleared token_width table room
