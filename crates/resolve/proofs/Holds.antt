@@ -23,7 +23,9 @@ use Rattle.names.proofs.Laws.{names_few, find_is, find_first, find_stands, texts
 use Rattle.walk.specs.Walk.{NodeHead, Node, Status, fresh, begun, finished, State, marked, mark, finish, resolve}
 use Rattle.walk.specs.Nodes.{node_record}
 use Rattle.walk.proofs.Basics.{same?, marked_same, marked_other, length_snoc}
-use Rattle.resolve.specs.Words.{used_in, place_in, span_in, node_in, nodes_with, status_word, names_with, finished_node, reference_kind, begun_word}
+use Rattle.resolve.specs.declared.Waits.{Waits as WaitsFor}
+use Rattle.resolve.specs.declared.Waits.TheVariants.{ForRight, ForLeft, ForName}
+use Rattle.resolve.specs.Words.{waits_of, used_in, place_in, span_in, node_in, nodes_with, status_word, names_with, finished_node, reference_kind, begun_word}
 use Rattle.resolve.specs.Turns.{Given, names_of_law, total, head_at, used_at, name_no, Named, Waits, Stack, Sane, Holds, fresh_row}
 use Rattle.resolve.proofs.Names.{word_start, span_of_law, word_status, word_expr, names_marked, texts_same}
 use Rattle.tables.proofs.Words.{word_none}
@@ -203,17 +205,17 @@ module _ {source es : List ℕ} {count : ℕ} (w : Given source es count) where
   unfolding Stack
   top_waits h = rw h.waiting h.stack.0
 
-  abbrev waits_of : Frame → ℕ
-  waits_of (wait_right k h l) = 1
-  waits_of (wait_left k h b) = 2
-  waits_of (wait_name h m) = 3
+  abbrev waits_by : Frame → WaitsFor
+  waits_by (wait_right k h l) = ForRight
+  waits_by (wait_left k h b) = ForLeft
+  waits_by (wait_name h m) = ForName
 
   -- what the innermost item waits for tells the frame
-  pub waits_for : {c d : ℕ} {nm nd wk : List ℕ} {s : State} {k : Frame} {ks : List Frame} (h : Holds w c d nm nd wk s (k ∷ ks)) → word_at work_width wk d 2 ≡ waits_of k
+  pub waits_for : {c d : ℕ} {nm nd wk : List ℕ} {s : State} {k : Frame} {ks : List Frame} (h : Holds w c d nm nd wk s (k ∷ ks)) → waits_of (word_at work_width wk d 2) ≡ waits_by k
   unfolding Waits
   waits_for {c} {d} {nm} {nd} {wk} {s} {k} {ks} h = go k (top_waits h)
     where
-      go : (f : Frame) → Waits w (word_at work_width wk d 0) (word_at work_width wk d 1) (word_at work_width wk d 2) (word_at work_width wk d 3) f → word_at work_width wk d 2 ≡ waits_of f
-      go (wait_right k h l) v = v.0
-      go (wait_left k h b) v = v.0
-      go (wait_name h m) v = v.0
+      go : (f : Frame) → Waits w (word_at work_width wk d 0) (word_at work_width wk d 1) (word_at work_width wk d 2) (word_at work_width wk d 3) f → waits_of (word_at work_width wk d 2) ≡ waits_by f
+      go (wait_right k h l) v = ap waits_of v.0
+      go (wait_left k h b) v = ap waits_of v.0
+      go (wait_name h m) v = ap waits_of v.0

@@ -18,13 +18,14 @@ use Rattle.walk.specs.Walk.{NodeHead, Own, noexpr, of, own_kind, Tree, none, par
 use Rattle.walk.proofs.Basics.{ready_true, ready_intro, not_begun_done, part_number_law}
 use Rattle.walk.proofs.Machine.{room_down, room_up}
 use Rattle.resolve.specs.declared.StackItem.{StackItem}
+use Rattle.resolve.specs.declared.Waits.TheVariants.{ForRight, ForLeft, ForName}
 use Rattle.records.specs.declared.numbers.ExprNo.{ExprNo}
 use Rattle.records.specs.declared.numbers.NameNo.{NameNo}
 use Rattle.records.specs.declared.numbers.NodeNo.{NodeNo}
 use Rattle.resolve.specs.declared.Step.{Step}
 use Rattle.resolve.specs.declared.Step.TheVariants.{Down, Up}
 use Rattle.resolve.specs.declared.Walker.{Walker}
-use Rattle.resolve.specs.Words.{item_words, item_at, down_walker, up_walker, left_item, left_walker, done_walker, used_in, kind_in, nodes_with, status_word, names_with, finished_node, reference_kind, begun_word, fresh_name}
+use Rattle.resolve.specs.Words.{waits_word, waits_of, item_words, item_at, down_walker, up_walker, left_item, left_walker, done_walker, used_in, kind_in, nodes_with, status_word, names_with, finished_node, reference_kind, begun_word, fresh_name}
 use Rattle.resolve.specs.Turns.{Given, total, trees, head_at, used_at, Owns, Named, StandsFor, Waits, Holds, Goes, Comes, Reads, Fits, Turns}
 use Rattle.resolve.proofs.Tables.{next_is}
 use Rattle.resolve.proofs.Holds.{used_le, used_is, status_is, expr_is, word_fresh, resolved, holds_node, holds_mark, holds_push, holds_pop, top_waits, waits_for}
@@ -221,7 +222,7 @@ refer_node source es count g q ex na nm nd wk nd' m v i l k u k3 hm hv fr hl hk 
 
 -- the innermost item waits for its right child
 pub up_left : (source es : List ℕ) (count : ℕ) (g : Walker) (nn : NodeNo) (nm nd wk wk' : List ℕ) (i : StackItem) (q : Walker) → g.step ≡ Up nn → 1 ≤ g.waiting
-    → i ≡ item_at wk g.waiting → i.waits ≡ 1 → q ≡ left_walker es i g → wk' ≡ written work_width wk g.waiting (item_words (left_item i nn))
+    → i ≡ item_at wk g.waiting → i.waits ≡ ForRight → q ≡ left_walker es i g → wk' ≡ written work_width wk g.waiting (item_words (left_item i nn))
     → Turns source es count g nm nd wk q nm nd wk'
 unfolding Turns Reads step
 up_left source es count g nn nm nd wk wk' i q u b hi p hq hw w (down t s ks) r f = absurd (goes_not w _ u r.0)
@@ -231,10 +232,10 @@ up_left source es count g nn nm nd wk wk' i q u b hi p hq hw w (up x (k ∷ ks))
     e : ℕ
     e = word_at work_width wk g.waiting 0
 
-    go : (k : Frame) → Holds w g.made g.waiting nm nd wk x.state (k ∷ ks) → word_at work_width wk g.waiting 2 ≡ 1 → Fits w (up x (k ∷ ks))
+    go : (k : Frame) → Holds w g.made g.waiting nm nd wk x.state (k ∷ ks) → waits_of (word_at work_width wk g.waiting 2) ≡ ForRight → Fits w (up x (k ∷ ks))
         → Reads w q nm nd wk' (step (trees w) (total w) (up x (k ∷ ks)))
-    go (wait_left o h y) hd p1 ft = absurd (omega (arith, waits_for w hd, p1))
-    go (wait_name h m) hd p1 ft = absurd (omega (arith, waits_for w hd, p1))
+    go (wait_left o h y) hd p1 ft = absurd (omega (arith, ap waits_word (sym p1 ∙ waits_for w hd)))
+    go (wait_name h m) hd p1 ft = absurd (omega (arith, ap waits_word (sym p1 ∙ waits_for w hd)))
     go (wait_right o h l) hd p1 ft =
         rw (hq ∙ ap (λ (y : StackItem). left_walker es y g) hi) (
           top.4,
@@ -253,7 +254,7 @@ up_left source es count g nn nm nd wk wk' i q u b hi p hq hw w (up x (k ∷ ks))
 
 -- for its left child
 pub up_node : (source es : List ℕ) (count : ℕ) (g : Walker) (nn : NodeNo) (nm nd wk nd' : List ℕ) (i : StackItem) (k : ℕ) (q : Walker) → g.step ≡ Up nn → 1 ≤ g.waiting
-    → i ≡ item_at wk g.waiting → i.waits ≡ 2 → k ≡ kind_in es i.expr.0 → nd' ≡ nodes_with es nm nd g.made k i.expr.0 i.name.0 nn.0 i.right.0 → q ≡ done_walker g
+    → i ≡ item_at wk g.waiting → i.waits ≡ ForLeft → k ≡ kind_in es i.expr.0 → nd' ≡ nodes_with es nm nd g.made k i.expr.0 i.name.0 nn.0 i.right.0 → q ≡ done_walker g
     → Turns source es count g nm nd wk q nm nd' wk
 unfolding Turns Reads step
 up_node source es count g nn nm nd wk nd' i k q u b hi p hk hn hq w (down t s ks) r f = absurd (goes_not w _ u r.0)
@@ -266,10 +267,10 @@ up_node source es count g nn nm nd wk nd' i k q u b hi p hk hn hq w (up x (fr �
     n : ℕ
     n = word_at work_width wk g.waiting 1
 
-    go : (fr : Frame) → Holds w g.made g.waiting nm nd wk x.state (fr ∷ ks) → word_at work_width wk g.waiting 2 ≡ 2 → Fits w (up x (fr ∷ ks))
+    go : (fr : Frame) → Holds w g.made g.waiting nm nd wk x.state (fr ∷ ks) → waits_of (word_at work_width wk g.waiting 2) ≡ ForLeft → Fits w (up x (fr ∷ ks))
         → Reads w q nm nd' wk (step (trees w) (total w) (up x (fr ∷ ks)))
-    go (wait_right o h l) hd p1 ft = absurd (omega (arith, waits_for w hd, p1))
-    go (wait_name h m) hd p1 ft = absurd (omega (arith, waits_for w hd, p1))
+    go (wait_right o h l) hd p1 ft = absurd (omega (arith, ap waits_word (sym p1 ∙ waits_for w hd)))
+    go (wait_name h m) hd p1 ft = absurd (omega (arith, ap waits_word (sym p1 ∙ waits_for w hd)))
     go (wait_left o h y) hd p1 ft =
         rw hq (
           ap next_number hd.made ∙ next_is (length x.state.nodes) room,
@@ -286,13 +287,13 @@ up_node source es count g nn nm nd wk nd' i k q u b hi p hk hn hq w (up x (fr �
 
 -- for the name that it uses
 pub up_name : (source es : List ℕ) (count : ℕ) (g : Walker) (nn : NodeNo) (nm nd wk nm' nd' : List ℕ) (i : StackItem) (m : ℕ) (q : Walker) → g.step ≡ Up nn → 1 ≤ g.waiting
-    → i ≡ item_at wk g.waiting → (i.waits ≡ 1 → ⊥) → (i.waits ≡ 2 → ⊥) → m ≡ used_in source es nm count i.expr.0 → nm' ≡ names_with nm m nn.0
+    → i ≡ item_at wk g.waiting → i.waits ≡ ForName → m ≡ used_in source es nm count i.expr.0 → nm' ≡ names_with nm m nn.0
     → nd' ≡ nodes_with es nm' nd g.made 3 i.expr.0 i.name.0 nn.0 i.right.0 → q ≡ done_walker g
     → Turns source es count g nm nd wk q nm' nd' wk
 unfolding Turns Reads step
-up_name source es count g nn nm nd wk nm' nd' i m q u b hi p1 p2 hm hn hd hq w (down t s ks) r f = absurd (goes_not w _ u r.0)
-up_name source es count g nn nm nd wk nm' nd' i m q u b hi p1 p2 hm hn hd hq w (up x []) r f = absurd (omega (arith, r.1.waiting))
-up_name source es count g nn nm nd wk nm' nd' i m q u b hi p1 p2 hm hn hd hq w (up x (fr ∷ ks)) r f = go fr r.1 f
+up_name source es count g nn nm nd wk nm' nd' i m q u b hi p hm hn hd hq w (down t s ks) r f = absurd (goes_not w _ u r.0)
+up_name source es count g nn nm nd wk nm' nd' i m q u b hi p hm hn hd hq w (up x []) r f = absurd (omega (arith, r.1.waiting))
+up_name source es count g nn nm nd wk nm' nd' i m q u b hi p hm hn hd hq w (up x (fr ∷ ks)) r f = go fr r.1 (sym (ap (λ (y : StackItem). y.waits) hi) ∙ p) f
   where
     e : ℕ
     e = word_at work_width wk g.waiting 0
@@ -300,13 +301,11 @@ up_name source es count g nn nm nd wk nm' nd' i m q u b hi p1 p2 hm hn hd hq w (
     n : ℕ
     n = word_at work_width wk g.waiting 1
 
-    waits_is : i.waits ≡ word_at work_width wk g.waiting 2
-    waits_is = ap (λ (y : StackItem). y.waits) hi
-
-    go : (fr : Frame) → Holds w g.made g.waiting nm nd wk x.state (fr ∷ ks) → Fits w (up x (fr ∷ ks)) → Reads w q nm' nd' wk (step (trees w) (total w) (up x (fr ∷ ks)))
-    go (wait_right o h l) h1 ft = absurd (p1 (waits_is ∙ waits_for w h1))
-    go (wait_left o h y) h1 ft = absurd (p2 (waits_is ∙ waits_for w h1))
-    go (wait_name h m₁) h1 ft =
+    go : (fr : Frame) → Holds w g.made g.waiting nm nd wk x.state (fr ∷ ks) → waits_of (word_at work_width wk g.waiting 2) ≡ ForName → Fits w (up x (fr ∷ ks))
+        → Reads w q nm' nd' wk (step (trees w) (total w) (up x (fr ∷ ks)))
+    go (wait_right o h l) h1 p1 ft = absurd (omega (arith, ap waits_word (sym p1 ∙ waits_for w h1)))
+    go (wait_left o h y) h1 p1 ft = absurd (omega (arith, ap waits_word (sym p1 ∙ waits_for w h1)))
+    go (wait_name h m₁) h1 p1 ft =
         rw hq (
           ap next_number h1.made ∙ next_is (length x.state.nodes) room,
           holds_node w marked· (resolve h (finished x.number)) nd' 3 e n nn.0 (word_at work_width wk g.waiting 3) room top.2 refl top.1 (comes w _ u r.0) top.4

@@ -14,7 +14,8 @@ use Rattle.names.specs.Held.{Held}
 use Rattle.walk.specs.Walk.{NodeHead, Own, noexpr, of, own_kind, Tree, none, part, refer, Node, Status, fresh, finished, State, visit, names_to, unwalked}
 use Rattle.walk.specs.Trees.{head, tree_of}
 use Rattle.walk.specs.Nodes.{node_record}
-use Rattle.resolve.specs.Words.{kind_in, status_word, for_right, for_left, for_name}
+use Rattle.resolve.specs.Words.{kind_in, status_word, waits_word}
+use Rattle.resolve.specs.declared.Waits.TheVariants.{ForRight, ForLeft, ForName}
 use Rattle.resolve.specs.declared.Step.{Step}
 use Rattle.resolve.specs.declared.Step.TheVariants.{Down, Up}
 use Rattle.resolve.specs.declared.Walker.{Walker}
@@ -83,9 +84,9 @@ module _ {source exprs : List ℕ} {count : ℕ} (w : Given source exprs count) 
 
   -- the four words of a stack item stand for this frame
   unfoldable pub Waits : (e n waits right : ℕ) → Frame → Type 0
-  Waits e n p r (wait_right k h l) = (p ≡ for_right) × (kind_in exprs e ≡ node.number (own_kind k)) × (head_at e n ≡ h) × Named e n × StandsFor (word_at expr_width exprs e 2) 0 l
-  Waits e n p r (wait_left k h b) = (p ≡ for_left) × (kind_in exprs e ≡ node.number (own_kind k)) × (head_at e n ≡ h) × Named e n × (r ≡ b)
-  Waits e n p r (wait_name h m) = (p ≡ for_name) × (head_at e n ≡ h) × Named e n × (used_at e ≡ m) × (r ≡ 0)
+  Waits e n p r (wait_right k h l) = (p ≡ waits_word ForRight) × (kind_in exprs e ≡ node.number (own_kind k)) × (head_at e n ≡ h) × Named e n × StandsFor (word_at expr_width exprs e 2) 0 l
+  Waits e n p r (wait_left k h b) = (p ≡ waits_word ForLeft) × (kind_in exprs e ≡ node.number (own_kind k)) × (head_at e n ≡ h) × Named e n × (r ≡ b)
+  Waits e n p r (wait_name h m) = (p ≡ waits_word ForName) × (head_at e n ≡ h) × Named e n × (used_at e ≡ m) × (r ≡ 0)
 
   unfoldable pub Stack : (work : List ℕ) → List Frame → Type 0
   Stack wk [] = Unit {0}

@@ -14,6 +14,8 @@ use Rattle.symbols.specs.Texts.{texts_from}
 use Rattle.walk.specs.Walk.{Node, Status, fresh, begun, finished}
 use Rattle.walk.specs.Nodes.{node_records_from, node_rows}
 use Rattle.resolve.specs.declared.StackItem.{StackItem}
+use Rattle.resolve.specs.declared.Waits.{Waits}
+use Rattle.resolve.specs.declared.Waits.TheVariants.{ForRight, ForLeft, ForName}
 use Rattle.resolve.specs.declared.Step.{Step}
 use Rattle.resolve.specs.declared.Step.TheVariants.{Down, Up}
 use Rattle.resolve.specs.declared.Walker.{Walker}
@@ -21,28 +23,28 @@ use Rattle.records.specs.declared.numbers.NodeNo.{NodeNo}
 
 -- ---- stack items
 
+-- the word of what an item waits for: its right child's node, its left child's node, the node of the name that it uses
+abbrev pub waits_word : Waits → ℕ
+waits_word ForRight = 1
+waits_word ForLeft = 2
+waits_word ForName = 3
+
+-- what a word says; any other word, as a lent table may have, says the last
+abbrev pub waits_of : ℕ → Waits
+waits_of v = if eqb v 1 then ForRight else if eqb v 2 then ForLeft else ForName
+
 -- expression, name, what it waits for, right node
 abbrev pub item_words : StackItem → List ℕ
-item_words i = i.expr.0 ∷ i.name.0 ∷ i.waits ∷ i.right.0 ∷ []
+item_words i = i.expr.0 ∷ i.name.0 ∷ waits_word i.waits ∷ i.right.0 ∷ []
 
 abbrev pub item_at : (work : List ℕ) → (number : ℕ) → StackItem
 item_at wk n =
     record {
       expr = record { 0 = word_at work_width wk n 0 };
       name = record { 0 = word_at work_width wk n 1 };
-      waits = word_at work_width wk n 2;
+      waits = waits_of (word_at work_width wk n 2);
       right = record { 0 = word_at work_width wk n 3 };
     }
-
--- what an item waits for: its right child's node, its left child's node, the node of the name that it uses
-abbrev pub for_right : ℕ
-for_right = 1
-
-abbrev pub for_left : ℕ
-for_left = 2
-
-abbrev pub for_name : ℕ
-for_name = 3
 
 -- ---- where the walk stands
 
@@ -64,7 +66,7 @@ last_node g = step_node g.step
 
 -- the item once its right child is made, and the walk that turns to its left child then
 abbrev pub left_item : StackItem → (right : NodeNo) → StackItem
-left_item i x = record i { waits = for_left; right = x }
+left_item i x = record i { waits = ForLeft; right = x }
 
 abbrev pub left_walker : (exprs : List ℕ) → StackItem → Walker → Walker
 left_walker es i g = down_walker (word_at expr_width es i.expr.0 2) 0 g.waiting g.made

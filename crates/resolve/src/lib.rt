@@ -7,7 +7,7 @@ ghost use Rattle.records.specs.Limits.{record_limit, name_width, node_width, wor
 ghost use Rattle.records.specs.NodeKind as node;
 ghost use Rattle.tables.specs.Tables.{word_at, written, span_at};
 ghost use Rattle.grammar.specs.Tree.{Line};
-ghost use Rattle.resolve.specs.Words.{item_words, item_at, left_item, down_walker, up_walker, left_walker, done_walker, last_node, used_in, kind_in, span_in, place_in, nodes_with, finished_node, reference_kind, fresh_name, names_with, begun_word, node_at, with_parent, bumped, Counts};
+ghost use Rattle.resolve.specs.Words.{waits_word, waits_of, item_words, item_at, left_item, down_walker, up_walker, left_walker, done_walker, last_node, used_in, kind_in, span_in, place_in, nodes_with, finished_node, reference_kind, fresh_name, names_with, begun_word, node_at, with_parent, bumped, Counts};
 ghost use Rattle.resolve.specs.Turns.{Turns, Runs, Visits, VisitsTo, is_running};
 ghost use Rattle.resolve.specs.Resolved.{HeldNames, Resolved};
 
@@ -15,13 +15,45 @@ use records::kinds::NodeKind;
 use records::numbers::{ByteOffset, ExprNo, NameNo, NodeNo, WorkNo};
 use records::{ExprRecord, NameRecord, NodeRecord, Record, Span, WorkRecord};
 
+// What an item waits for: its right child's node, its left child's node, the node of the name that it uses.
+#[derive(Clone, Copy)]
+pub enum Waits {
+    ForRight,
+    ForLeft,
+    ForName,
+}
+
+impl Waits {
+    // The word that says it in the work table.
+    fn word(self) -> u32
+        ensures { result ≡ waits_word self }
+    {
+        match self {
+            Waits::ForRight => 1,
+            Waits::ForLeft => 2,
+            Waits::ForName => 3,
+        }
+    }
+
+    // What a word says; a lent table may have any words.
+    fn of(word: u32) -> Waits
+        ensures { result ≡ waits_of word }
+    {
+        match word {
+            1 => Waits::ForRight,
+            2 => Waits::ForLeft,
+            _ => Waits::ForName,
+        }
+    }
+}
+
 // The Rust's `StackItem`: an expression whose node is still to be made, the name whose outermost expression it is or 0, what it
 // waits for, and the node of its right child once that is made. Its words are a work record.
 #[derive(Clone, Copy)]
 pub struct StackItem {
     pub expr: ExprNo,
     pub name: NameNo,
-    pub waits: u32,
+    pub waits: Waits,
     pub right: NodeNo,
 }
 
@@ -33,13 +65,6 @@ impl StackItem {
     pub const WAITS: u32 = 2;
 
     pub const RIGHT: u32 = 3;
-
-    // What an item waits for: its right child's node, its left child's node, the node of the name that it uses.
-    pub const FOR_RIGHT: u32 = 1;
-
-    pub const FOR_LEFT: u32 = 2;
-
-    pub const FOR_NAME: u32 = 3;
 }
 
 impl Record<4> for StackItem {
@@ -48,7 +73,7 @@ impl Record<4> for StackItem {
     ghost narrow = { Prim.search rules };
 
     fn words(self) -> [u32; 4] {
-        [self.expr.0, self.name.0, self.waits, self.right.0]
+        [self.expr.0, self.name.0, self.waits.word(), self.right.0]
     }
 }
 
@@ -97,7 +122,7 @@ fn item_at(work: &[u32], number: WorkNo) -> StackItem
     StackItem {
         expr: ExprNo(tables::word(work, WorkRecord::WORDS, i, StackItem::EXPR)),
         name: NameNo(tables::word(work, WorkRecord::WORDS, i, StackItem::NAME)),
-        waits: tables::word(work, WorkRecord::WORDS, i, StackItem::WAITS),
+        waits: Waits::of(tables::word(work, WorkRecord::WORDS, i, StackItem::WAITS)),
         right: NodeNo(tables::word(work, WorkRecord::WORDS, i, StackItem::RIGHT)),
     }
 }
@@ -259,7 +284,7 @@ fn refer(
     let item = StackItem {
         expr,
         name,
-        waits: StackItem::FOR_NAME,
+        waits: Waits::ForName,
         right: NodeNo(0),
     };
     let used = used_name(program, names, expr);
@@ -291,7 +316,7 @@ fn turn_left(exprs: &[u32], work: &mut [u32], item: StackItem, right: NodeNo, g:
     ensures stack { work.new ≡ written work_width work.old g.waiting (item_words (left_item item right)) }
 {
     let next = StackItem {
-        waits: StackItem::FOR_LEFT,
+        waits: Waits::ForLeft,
         right,
         ..item
     };
@@ -309,6 +334,7 @@ fn one_done(g: Walker) -> Walker
 }
 
 // A turn that comes up to an item: the left child is next, or the item's node is made, once its name is finished if it uses one.
+#[tactic(auto, using(crate::proofs::Turning::up_left, crate::proofs::Turning::up_node, crate::proofs::Turning::up_name))]
 fn come_up(
     program: Program,
     names: &mut [u32],
@@ -321,19 +347,21 @@ fn come_up(
         → Turns program.entry.source.now program.entry.exprs.now program.entry.count g names.old nodes.old work.old result names.new nodes.new work.new }
 {
     let item = item_at(work, WorkNo(g.waiting));
-    if item.waits == StackItem::FOR_RIGHT {
-        return turn_left(program.exprs, work, item, node, g);
+    match item.waits {
+        Waits::ForRight => turn_left(program.exprs, work, item, node, g),
+        Waits::ForLeft => {
+            let kind = node_kind(program.exprs, item.expr);
+            make_node(program.exprs, names, nodes, g.made, kind, item, node);
+            one_done(g)
+        }
+        Waits::ForName => {
+            let used = used_name(program, names, item.expr);
+            set_node(names, used, node);
+            let kind = NodeKind::REFERENCE;
+            make_node(program.exprs, names, nodes, g.made, kind, item, node);
+            one_done(g)
+        }
     }
-    if item.waits == StackItem::FOR_LEFT {
-        let kind = node_kind(program.exprs, item.expr);
-        make_node(program.exprs, names, nodes, g.made, kind, item, node);
-        return one_done(g);
-    }
-    let used = used_name(program, names, item.expr);
-    set_node(names, used, node);
-    let kind = NodeKind::REFERENCE;
-    make_node(program.exprs, names, nodes, g.made, kind, item, node);
-    one_done(g)
 }
 
 // A turn that goes down: passes an absent child, turns to a reference, or lets a part wait for its right child.
@@ -360,7 +388,7 @@ fn go_down(
     let item = StackItem {
         expr,
         name,
-        waits: StackItem::FOR_RIGHT,
+        waits: Waits::ForRight,
         right: NodeNo(0),
     };
     tables::write_record(work, number, item);
