@@ -25,7 +25,7 @@ use Rattle.walk.specs.Nodes.{node_record}
 use Rattle.walk.proofs.Basics.{same?, marked_same, marked_other, length_snoc}
 use Rattle.resolve.specs.declared.Waits.{Waits as WaitsFor}
 use Rattle.resolve.specs.declared.Waits.TheVariants.{ForRight, ForLeft, ForName}
-use Rattle.resolve.specs.Words.{waits_of, used_in, place_in, span_in, node_in, nodes_with, status_word, names_with, finished_node, reference_kind, begun_word}
+use Rattle.resolve.specs.Words.{waits_of, used_in, place_in, span_in, node_in, nodes_with, status_of, status_at, name_status, status_word, names_with, finished_node, reference_kind, begun_word}
 use Rattle.resolve.specs.Turns.{Given, names_of_law, total, head_at, used_at, name_no, Named, Waits, Stack, Sane, Holds, fresh_row}
 use Rattle.resolve.proofs.Names.{word_start, span_of_law, word_status, word_expr, names_marked, texts_same}
 use Rattle.tables.proofs.Words.{word_none}
@@ -44,21 +44,18 @@ sane_marked st m v s h k = (zeroth, λ a i. go a i (same? a m))
     go a i (inl p) e = k i (sym (marked_same m v st) ∙ ap (marked m v st) (sym p) ∙ e)
     go a i (inr d) e = s.1 a i (sym (marked_other m v st a d) ∙ e)
 
--- a status word of 0 is fresh
-pub word_fresh : (v : Status) → ((i : ℕ) → v ≡ finished i → (1 ≤ i) × (i ≤ record_limit)) → status_word v ≡ 0 → v ≡ fresh
-word_fresh fresh h e = refl
-word_fresh begun h e = absurd (omega arith)
-word_fresh (finished i) h e = let a = h i refl in absurd (omega arith)
+-- the word of a status says it
+pub word_says : (v : Status) → ((i : ℕ) → v ≡ finished i → (1 ≤ i) × (i ≤ record_limit)) → status_of (status_word v) ≡ name_status v
+word_says fresh h = refl
+word_says begun h = refl
+word_says (finished i) h = let a = h i refl in rw (ne_eqb i 0 (λ q. omega arith), ne_eqb i begun_word (λ q. omega arith))
 
--- the node of a reference, by its name's status word
-pub resolved : (h : NodeHead) (v : Status) → ((i : ℕ) → v ≡ finished i → (1 ≤ i) × (i ≤ record_limit)) → (w : ℕ) → w ≡ status_word v
-    → (reference_kind (finished_node w) ≡ node.number (resolve h v).kind) × (finished_node w ≡ (resolve h v).left) × ((resolve h v).right ≡ 0) × ((resolve h v).head ≡ h)
-resolved h fresh k w e = (rw e, rw e, refl, refl)
-resolved h begun k w e = (rw e, rw e, refl, refl)
-resolved h (finished i) k w e =
-    let a = k i refl in
-    let b : finished_node w ≡ i = ap finished_node e ∙ rw (ne_eqb i begun_word (λ q. omega arith)) in
-    (ap reference_kind b ∙ rw (ne_eqb i 0 (λ q. omega arith)), b, refl, refl)
+-- the node of a reference, by its name's status
+pub resolved : (h : NodeHead) (v : Status)
+    → (reference_kind (name_status v) ≡ node.number (resolve h v).kind) × (finished_node (name_status v) ≡ (resolve h v).left) × ((resolve h v).right ≡ 0) × ((resolve h v).head ≡ h)
+resolved h fresh = (refl, refl, refl, refl)
+resolved h begun = (refl, refl, refl, refl)
+resolved h (finished i) = (refl, refl, refl, refl)
 
 module _ {source es : List ℕ} {count : ℕ} (w : Given source es count) where
   pub few : total w ≤ record_limit
@@ -87,9 +84,12 @@ module _ {source es : List ℕ} {count : ℕ} (w : Given source es count) where
         ∙ ap (λ (ts : List Text). find_from 1 ts (span_text source (span_at expr_width es e 4))) (texts_same source w.lines few w.held.names s.status w.names)
         ∙ sym (find_is (names_of_law w) (span_text source (span_at expr_width es e 4)))
 
-    pub status_is : (m : ℕ) → m ≤ total w → word_at name_width nm m 3 ≡ status_word (s.status m)
-    status_is zero k = word_none name_width nm 0 3 refl ∙ sym (ap status_word h.sane.0)
-    status_is (suc m) k = ap (λ (t : List ℕ). word_at name_width t (suc m) 3) h.names ∙ word_status w.lines (names_of_law w) few s.status w.names (suc m) (omega arith) k
+    status_word_is : (m : ℕ) → m ≤ total w → word_at name_width nm m 3 ≡ status_word (s.status m)
+    status_word_is zero k = word_none name_width nm 0 3 refl ∙ sym (ap status_word h.sane.0)
+    status_word_is (suc m) k = ap (λ (t : List ℕ). word_at name_width t (suc m) 3) h.names ∙ word_status w.lines (names_of_law w) few s.status w.names (suc m) (omega arith) k
+
+    pub status_is : (m : ℕ) → m ≤ total w → status_at nm m ≡ name_status (s.status m)
+    status_is m k = ap status_of (status_word_is m k) ∙ word_says (s.status m) (h.sane.1 m)
 
     -- ---- a node
 

@@ -13,12 +13,13 @@ use Rattle.walk.proofs.Basics.{ready_true, ready_intro}
 use Rattle.walk.proofs.Fuel.{sum_begin, visit_unroll}
 use Rattle.walk.proofs.Count.{visit_room, walk_room, walk_number}
 use Rattle.walk.proofs.Machine.{step_meaning, step_load, step_fit, step_falls}
+use Rattle.resolve.specs.declared.Status.{Status as NameStatus}
 use Rattle.resolve.specs.declared.Step.{Step}
 use Rattle.resolve.specs.declared.Step.TheVariants.{Down, Up}
 use Rattle.resolve.specs.declared.Walker.{Walker}
-use Rattle.resolve.specs.Words.{down_walker, step_node, last_node, status_word, names_with, begun_word, fresh_name}
+use Rattle.resolve.specs.Words.{down_walker, step_node, last_node, status_at, name_status, names_with, begun_word, fresh_name}
 use Rattle.resolve.specs.Turns.{Given, total, trees, StandsFor, Holds, Goes, Comes, Reads, Fits, Turns, goes_on, is_running, turn_limit, Runs, Visits, VisitsTo}
-use Rattle.resolve.proofs.Holds.{status_is, expr_is, word_fresh, holds_mark}
+use Rattle.resolve.proofs.Holds.{status_is, expr_is, holds_mark}
 use Rattle.resolve.proofs.Turning.{no_way, fresh_both, fresh_intro, not_finished}
 use Rattle.resolve.proofs.Bridge.{tree_stands}
 use Rattle.walk.specs.Walk.{Legal}
@@ -145,7 +146,7 @@ module _ {source es : List ℕ} {count : ℕ} (w : Given source es count) where
       go (part k h x y) a c = omega (arith, c)
       go (refer h m) a c = omega arith
 
-pub visit_no : (source es : List ℕ) (count n made : ℕ) (nm nd wk : List ℕ) (v : ℕ) → v ≡ word_at name_width nm n 3 → fresh_name n v ≡ false → Visits source es count n made nm nd wk made nm nd wk
+pub visit_no : (source es : List ℕ) (count n made : ℕ) (nm nd wk : List ℕ) (v : NameStatus) → v ≡ status_at nm n → fresh_name n v ≡ false → Visits source es count n made nm nd wk made nm nd wk
 unfolding Visits
 visit_no source es count n made nm nd wk v hv fr w s a b h f =
     subst (λ (t : State). Holds w made 0 nm nd wk t []) (sym (visit_unroll (trees w) (total w) n s ∙ go (ready (trees w) (total w) n s) refl)) h
@@ -154,9 +155,9 @@ visit_no source es count n made nm nd wk v hv fr w s a b h f =
     go false e = unfold whole_if in refl
     go true e =
         let d = ready_true (trees w) (total w) n s e in
-        absurd (no_way (fresh_intro n v a (hv ∙ status_is w h n d.0.1 ∙ ap status_word d.1)) fr)
+        absurd (no_way (fresh_intro n v a (hv ∙ status_is w h n d.0.1 ∙ ap name_status d.1)) fr)
 
-pub visit_yes : (source es : List ℕ) (count n made : ℕ) (nm nd wk nm₁ nm₂ nd₂ wk₂ nm₃ : List ℕ) (v e m : ℕ) (g h : Walker) → v ≡ word_at name_width nm n 3 → fresh_name n v ≡ true → e ≡ word_at name_width (names_with nm n begun_word) n 2 → nm₁ ≡ names_with nm n begun_word
+pub visit_yes : (source es : List ℕ) (count n made : ℕ) (nm nd wk nm₁ nm₂ nd₂ wk₂ nm₃ : List ℕ) (v : NameStatus) (e m : ℕ) (g h : Walker) → v ≡ status_at nm n → fresh_name n v ≡ true → e ≡ word_at name_width (names_with nm n begun_word) n 2 → nm₁ ≡ names_with nm n begun_word
     → g ≡ down_walker e n 0 made → Runs source es count g nm₁ nd wk h nm₂ nd₂ wk₂
     → m ≡ last_node h → nm₃ ≡ names_with nm₂ n m → Visits source es count n made nm nd wk h.made nm₃ nd₂ wk₂
 unfolding Visits Runs
@@ -173,7 +174,7 @@ visit_yes source es count n made nm nd wk nm₁ nm₂ nd₂ wk₂ nm₃ v e m g 
     legal = (a, omega (arith, b, w.counted))
 
     n_fresh : s.status n ≡ fresh
-    n_fresh = word_fresh (s.status n) (hd.sane.1 n) (sym (status_is w hd n legal.1) ∙ sym hv ∙ (fresh_both n v fr).1)
+    n_fresh = (fresh_both n (s.status n) (sym (ap (fresh_name n) (hv ∙ status_is w hd n legal.1)) ∙ fr)).1
 
     is_ready : ready F N n s ≡ true
     is_ready = ready_intro F N n s legal n_fresh

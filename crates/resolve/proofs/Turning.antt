@@ -1,6 +1,6 @@
 -- One turn of the walk on the tables, case by case. Assumes nothing.
 use Prim.Native.Nat.{ℕ, zero, suc, ◌+◌, ◌-◌, ◌≤◌, ◌<◌}
-use mathlib.Core.Bool.{Bool, true, false, ◌&&◌, not}
+use mathlib.Core.Bool.{Bool, true, false, ◌&&◌}
 use mathlib.Core.Path.{◌≡◌, refl, sym, ap, subst, ◌∙◌}
 use mathlib.Core.Logic.{◌⊎◌, inl, inr, ◌≢◌}
 use mathlib.Core.List.{List, [], ◌∷◌}
@@ -22,13 +22,15 @@ use Rattle.resolve.specs.declared.Waits.TheVariants.{ForRight, ForLeft, ForName}
 use Rattle.records.specs.declared.numbers.ExprNo.{ExprNo}
 use Rattle.records.specs.declared.numbers.NameNo.{NameNo}
 use Rattle.records.specs.declared.numbers.NodeNo.{NodeNo}
+use Rattle.resolve.specs.declared.Status.{Status as NameStatus}
+use Rattle.resolve.specs.declared.Status.TheVariants.{Fresh}
 use Rattle.resolve.specs.declared.Step.{Step}
 use Rattle.resolve.specs.declared.Step.TheVariants.{Down, Up}
 use Rattle.resolve.specs.declared.Walker.{Walker}
-use Rattle.resolve.specs.Words.{waits_word, waits_of, item_words, item_at, down_walker, up_walker, left_item, left_walker, done_walker, used_in, kind_in, nodes_with, status_word, names_with, finished_node, reference_kind, begun_word, fresh_name}
+use Rattle.resolve.specs.Words.{waits_word, waits_of, item_words, item_at, down_walker, up_walker, left_item, left_walker, done_walker, used_in, kind_in, nodes_with, status_at, name_status, names_with, finished_node, reference_kind, begun_word, fresh_name}
 use Rattle.resolve.specs.Turns.{Given, total, trees, head_at, used_at, Owns, Named, StandsFor, Waits, Holds, Goes, Comes, Reads, Fits, Turns}
 use Rattle.resolve.proofs.Tables.{next_is}
-use Rattle.resolve.proofs.Holds.{used_le, used_is, status_is, expr_is, word_fresh, resolved, holds_node, holds_mark, holds_push, holds_pop, top_waits, waits_for}
+use Rattle.resolve.proofs.Holds.{used_le, used_is, status_is, expr_is, resolved, holds_node, holds_mark, holds_push, holds_pop, top_waits, waits_for}
 use Rattle.resolve.proofs.Bridge.{tree_stands}
 use Rattle.walk.specs.Machine.{Frame, wait_right, wait_left, wait_name, down, up, step, at_reference, size, Fit, NamesLegal, PartWaits}
 
@@ -37,12 +39,14 @@ use Rattle.walk.specs.Machine.{Frame, wait_right, wait_left, wait_name, down, up
 pub no_way : {b : Bool} → b ≡ true → b ≡ false → ⊥
 no_way p q = let z : ◌≡◌ {A = ℕ} 0 1 = cc in omega arith
 
-pub fresh_both : (m v : ℕ) → fresh_name m v ≡ true → (1 ≤ m) × (v ≡ 0)
-fresh_both zero v e = let z : ◌≡◌ {A = ℕ} 0 1 = cc in absurd (omega arith)
-fresh_both (suc m) v e = (omega arith, eqb-true v 0 (and_right (not (eqb (suc m) 0)) (eqb v 0) e))
+pub fresh_both : (m : ℕ) (v : Status) → fresh_name m (name_status v) ≡ true → (1 ≤ m) × (v ≡ fresh)
+fresh_both zero fresh e = absurd (no_way e refl)
+fresh_both (suc m) fresh e = (omega arith, refl)
+fresh_both m begun e = absurd (no_way e refl)
+fresh_both m (finished i) e = absurd (no_way e refl)
 
-pub fresh_intro : (m v : ℕ) → 1 ≤ m → v ≡ 0 → fresh_name m v ≡ true
-fresh_intro m v h e = rw (ne_eqb m 0 (λ q. omega arith), eq-eqb v 0 e)
+pub fresh_intro : (m : ℕ) (v : NameStatus) → 1 ≤ m → v ≡ Fresh → fresh_name m v ≡ true
+fresh_intro m v h e = ap (fresh_name m) e ∙ rw (ne_eqb m 0 (λ q. omega arith))
 
 -- a begun name has no node
 pub not_finished : {v : Status} → v ≡ begun → (j : ℕ) → v ≡ finished j → (1 ≤ j) × (j ≤ record_limit)
@@ -121,8 +125,8 @@ at_refer w e n (part (of o) h l r) k s = absurd (omega (arith, part_number_law o
 at_refer w e n (refer h m) k s = (h, m, refl, s.0, s.2, s.3, s.4)
 
 -- a reference to a fresh name
-pub refer_begin : (source es : List ℕ) (count : ℕ) (g q : Walker) (ex : ExprNo) (na : NameNo) (nm nd wk nm' wk' : List ℕ) (m v i e : ℕ) → g.step ≡ Down ex na → word_at expr_width es ex.0 0 ≡ 3
-    → m ≡ used_in source es nm count ex.0 → v ≡ word_at name_width nm m 3 → fresh_name m v ≡ true → i ≡ next_number g.waiting
+pub refer_begin : (source es : List ℕ) (count : ℕ) (g q : Walker) (ex : ExprNo) (na : NameNo) (nm nd wk nm' wk' : List ℕ) (m : ℕ) (v : NameStatus) (i e : ℕ) → g.step ≡ Down ex na → word_at expr_width es ex.0 0 ≡ 3
+    → m ≡ used_in source es nm count ex.0 → v ≡ status_at nm m → fresh_name m v ≡ true → i ≡ next_number g.waiting
     → wk' ≡ written work_width wk i (ex.0 ∷ na.0 ∷ 3 ∷ 0 ∷ []) → e ≡ word_at name_width (names_with nm m begun_word) m 2 → nm' ≡ names_with nm m begun_word → q ≡ down_walker e m i g.made
     → Turns source es count g nm nd wk q nm' nd wk'
 unfolding Turns Reads step at_reference
@@ -137,14 +141,17 @@ refer_begin source es count g q ex na nm nd wk nm' wk' m v i e u k3 hm hv fr hi 
         m_is : m ≡ a.1
         m_is = hm ∙ used_is w r.1 ex.0 ∙ a.6
 
-        legal : (1 ≤ m) × (m ≤ total w)
-        legal = ((fresh_both m v fr).0, omega (arith, used_le w ex.0, hm, used_is w r.1 ex.0))
+        low : m ≤ total w
+        low = omega (arith, used_le w ex.0, hm, used_is w r.1 ex.0)
 
-        m_fresh : s.status m ≡ fresh
-        m_fresh = word_fresh (s.status m) (r.1.sane.1 m) (sym (status_is w r.1 m legal.1) ∙ sym hv ∙ (fresh_both m v fr).1)
+        both : (1 ≤ m) × (s.status m ≡ fresh)
+        both = fresh_both m (s.status m) (sym (ap (fresh_name m) (hv ∙ status_is w r.1 m low)) ∙ fr)
+
+        legal : (1 ≤ m) × (m ≤ total w)
+        legal = (both.0, low)
 
         is_ready : ready (trees w) (total w) m s ≡ true
-        is_ready = ready_intro (trees w) (total w) m s legal m_fresh
+        is_ready = ready_intro (trees w) (total w) m s legal both.1
 
         main : Fits w (down (refer a.0 m) s ks) → Reads w q nm' nd wk' (step (trees w) (total w) (down (refer a.0 m) s ks))
         main fit =
@@ -171,8 +178,8 @@ refer_begin source es count g q ex na nm nd wk nm' wk' m v i e u k3 hm hv fr hi 
             waits = unfold Waits in (refl, a.4, (a.5, λ z. absurd (a.3 z)), a.6 ∙ sym m_is, refl)
 
 -- any other reference
-pub refer_node : (source es : List ℕ) (count : ℕ) (g q : Walker) (ex : ExprNo) (na : NameNo) (nm nd wk nd' : List ℕ) (m v i l k : ℕ) → g.step ≡ Down ex na → word_at expr_width es ex.0 0 ≡ 3
-    → m ≡ used_in source es nm count ex.0 → v ≡ word_at name_width nm m 3 → fresh_name m v ≡ false → l ≡ finished_node v → k ≡ reference_kind l
+pub refer_node : (source es : List ℕ) (count : ℕ) (g q : Walker) (ex : ExprNo) (na : NameNo) (nm nd wk nd' : List ℕ) (m : ℕ) (v : NameStatus) (i l k : ℕ) → g.step ≡ Down ex na → word_at expr_width es ex.0 0 ≡ 3
+    → m ≡ used_in source es nm count ex.0 → v ≡ status_at nm m → fresh_name m v ≡ false → l ≡ finished_node v → k ≡ reference_kind v
     → nd' ≡ nodes_with es nm nd g.made k ex.0 na.0 l 0 → i ≡ next_number g.made → q ≡ up_walker i g.waiting i
     → Turns source es count g nm nd wk q nm nd' wk
 unfolding Turns Reads step at_reference
@@ -190,7 +197,7 @@ refer_node source es count g q ex na nm nd wk nd' m v i l k u k3 hm hv fr hl hk 
         low : m ≤ total w
         low = omega (arith, used_le w ex.0, hm, used_is w r.1 ex.0)
 
-        v_is : v ≡ status_word (s.status m)
+        v_is : v ≡ name_status (s.status m)
         v_is = hv ∙ status_is w r.1 m low
 
         not_ready : ready (trees w) (total w) m s ≡ false
@@ -198,22 +205,22 @@ refer_node source es count g q ex na nm nd wk nd' m v i l k u k3 hm hv fr hl hk 
           where
             sub : (b : Bool) → ready (trees w) (total w) m s ≡ b → ready (trees w) (total w) m s ≡ false
             sub false e = e
-            sub true e = let d = ready_true (trees w) (total w) m s e in absurd (no_way (fresh_intro m v d.0.0 (v_is ∙ ap status_word d.1)) fr)
+            sub true e = let d = ready_true (trees w) (total w) m s e in absurd (no_way (fresh_intro m v d.0.0 (v_is ∙ ap name_status d.1)) fr)
 
         main : Fits w (down (refer a.0 m) s ks) → Reads w q nm nd' wk (step (trees w) (total w) (down (refer a.0 m) s ks))
         main fit =
             subst (λ (y : Walker). Reads w y nm nd' wk (step (trees w) (total w) (down (refer a.0 m) s ks))) (sym hq) (
             rw not_ready (
               hi ∙ ap next_number r.1.made ∙ next_is (length s.nodes) room,
-              rw hi (holds_node w r.1 x nd' k ex.0 na.0 l 0 room (a.5, λ z. absurd (a.3 z)) (hk ∙ ap reference_kind hl ∙ res.0) (a.4 ∙ sym res.3) (hl ∙ res.1) (sym res.2) hn),
+              rw hi (holds_node w r.1 x nd' k ex.0 na.0 l 0 room (a.5, λ z. absurd (a.3 z)) (hk ∙ ap reference_kind v_is ∙ res.0) (a.4 ∙ sym res.3) (hl ∙ ap finished_node v_is ∙ res.1) (sym res.2) hn),
             )
             )
           where
             x : Node
             x = resolve a.0 (s.status m)
 
-            res : (reference_kind (finished_node v) ≡ node.number (resolve a.0 (s.status m)).kind) × (finished_node v ≡ (resolve a.0 (s.status m)).left) × ((resolve a.0 (s.status m)).right ≡ 0) × ((resolve a.0 (s.status m)).head ≡ a.0)
-            res = resolved a.0 (s.status m) (r.1.sane.1 m) v v_is
+            res : (reference_kind (name_status (s.status m)) ≡ node.number x.kind) × (finished_node (name_status (s.status m)) ≡ x.left) × (x.right ≡ 0) × (x.head ≡ a.0)
+            res = resolved a.0 (s.status m)
 
             room : length s.nodes < record_limit
             room = unfold size in omega (arith, room_down (trees w) (total w) (refer a.0 m) s ks, fit.0)

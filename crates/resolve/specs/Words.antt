@@ -1,5 +1,5 @@
 -- What single functions of the walk read and make, for any words.
-use Rattle.std.specs.Prelude.{ℕ, ◌+◌, ◌-◌, min, ◌≤◌, Bool, ◌&&◌, not, ◌≡◌, List, [], ◌∷◌, map, length, eqb, if◌then◌else◌}
+use Rattle.std.specs.Prelude.{ℕ, ◌+◌, ◌-◌, min, ◌≤◌, Bool, false, not, ◌≡◌, List, [], ◌∷◌, map, length, eqb, if◌then◌else◌}
 use Rattle.records.specs.Base.{within}
 use Rattle.records.specs.Limits.{record_limit, expr_width, name_width, node_width, work_width}
 use Rattle.records.specs.NodeKind as node
@@ -16,6 +16,8 @@ use Rattle.walk.specs.Nodes.{node_records_from, node_rows}
 use Rattle.resolve.specs.declared.StackItem.{StackItem}
 use Rattle.resolve.specs.declared.Waits.{Waits}
 use Rattle.resolve.specs.declared.Waits.TheVariants.{ForRight, ForLeft, ForName}
+use Rattle.resolve.specs.declared.Status.{Status as NameStatus}
+use Rattle.resolve.specs.declared.Status.TheVariants.{Fresh, Begun, Finished}
 use Rattle.resolve.specs.declared.Step.{Step}
 use Rattle.resolve.specs.declared.Step.TheVariants.{Down, Up}
 use Rattle.resolve.specs.declared.Walker.{Walker}
@@ -111,25 +113,44 @@ nodes_with es nm nd c k e n l r = written node_width nd (next_number c) (node_wo
 
 -- ---- names
 
--- how far a name has come, as its word `node` says it
+-- how far a name has come, as its word `node` says it: fresh, begun, or else finished with that node
 abbrev pub begun_word : ℕ
 begun_word = 4294967295
 
+abbrev pub node_word : NameStatus → ℕ
+node_word Fresh = 0
+node_word Begun = begun_word
+node_word (Finished x) = x.0
+
+-- what a word says, and what the word of the name n says
+abbrev pub status_of : (word : ℕ) → NameStatus
+status_of v = if eqb v 0 then Fresh else if eqb v begun_word then Begun else Finished (record { 0 = v })
+
+abbrev pub status_at : (names : List ℕ) → (n : ℕ) → NameStatus
+status_at nm n = status_of (word_at name_width nm n 3)
+
+-- a status of the walk (walk/specs/Walk.antt), and its word
+abbrev pub name_status : Status → NameStatus
+name_status fresh = Fresh
+name_status begun = Begun
+name_status (finished i) = Finished (record { 0 = i })
+
 abbrev pub status_word : Status → ℕ
-status_word fresh = 0
-status_word begun = begun_word
-status_word (finished i) = i
+status_word v = node_word (name_status v)
 
--- the node that a reference gets as its child, by its name's status word; 0 if none
-abbrev pub finished_node : (status : ℕ) → ℕ
-finished_node w = if eqb w begun_word then 0 else w
+-- the node that a reference gets as its child, by its name's status, 0 if none; a reference with none is missing
+abbrev pub finished_node : NameStatus → ℕ
+finished_node (Finished x) = x.0
+finished_node _ = 0
 
-abbrev pub reference_kind : (node : ℕ) → ℕ
-reference_kind i = if eqb i 0 then node.number node.missing else node.number node.ref
+abbrev pub reference_kind : NameStatus → ℕ
+reference_kind (Finished x) = node.number node.ref
+reference_kind _ = node.number node.missing
 
--- a name that has a legal line, and a fresh status
-abbrev pub fresh_name : (m status : ℕ) → Bool
-fresh_name m w = not (eqb m 0) && eqb w 0
+-- a name that has a legal line, and is fresh
+abbrev pub fresh_name : (m : ℕ) → NameStatus → Bool
+fresh_name m Fresh = not (eqb m 0)
+fresh_name m _ = false
 
 -- the name n with another word for its node
 abbrev pub names_with : (names : List ℕ) → (n node : ℕ) → List ℕ

@@ -7,7 +7,7 @@ ghost use Rattle.records.specs.Limits.{record_limit, name_width, node_width, wor
 ghost use Rattle.records.specs.NodeKind as node;
 ghost use Rattle.tables.specs.Tables.{word_at, written, span_at};
 ghost use Rattle.grammar.specs.Tree.{Line};
-ghost use Rattle.resolve.specs.Words.{waits_word, waits_of, item_words, item_at, left_item, down_walker, up_walker, left_walker, done_walker, last_node, used_in, kind_in, span_in, place_in, nodes_with, finished_node, reference_kind, fresh_name, names_with, begun_word, node_at, with_parent, bumped, Counts};
+ghost use Rattle.resolve.specs.Words.{waits_word, waits_of, item_words, item_at, left_item, down_walker, up_walker, left_walker, done_walker, last_node, used_in, kind_in, span_in, place_in, nodes_with, node_word, status_of, status_at, finished_node, reference_kind, fresh_name, names_with, begun_word, node_at, with_parent, bumped, Counts};
 ghost use Rattle.resolve.specs.Turns.{Turns, Runs, Visits, VisitsTo, is_running};
 ghost use Rattle.resolve.specs.Resolved.{HeldNames, Resolved};
 
@@ -77,14 +77,36 @@ impl Record<4> for StackItem {
     }
 }
 
-// How far a name has come, as its word `node` says it: it is fresh, begun, or else finished with that node.
+// How far a name has come, as its word `node` says it.
 #[derive(Clone, Copy)]
-pub struct Status {}
+pub enum Status {
+    Fresh,
+    Begun,
+    Finished(NodeNo),
+}
 
 impl Status {
-    pub const FRESH: u32 = 0;
+    // The word that says it.
+    fn word(self) -> u32
+        ensures { result ≡ node_word self }
+    {
+        match self {
+            Status::Fresh => 0,
+            Status::Begun => u32::MAX,
+            Status::Finished(node) => node.0,
+        }
+    }
 
-    pub const BEGUN: u32 = 4294967295;
+    // What a word says; no node has the number of one of the first two.
+    fn of(word: u32) -> Status
+        ensures { result ≡ status_of word }
+    {
+        match word {
+            0 => Status::Fresh,
+            u32::MAX => Status::Begun,
+            _ => Status::Finished(NodeNo(word)),
+        }
+    }
 }
 
 // What is walked and not changed: the expressions of a source, and how many names there are.
@@ -200,41 +222,53 @@ fn make_node(
     tables::write_record(nodes, cursor::next_number(made), node);
 }
 
-// Sets the word of a name's node.
-fn set_node(names: &mut [u32], name: NameNo, node: NodeNo)
-    ensures { names.new ≡ names_with names.old name.0 node.0 }
+// How far a name has come.
+fn status_at(names: &[u32], name: NameNo) -> Status
+    ensures { result ≡ status_at names.now name.0 }
+{
+    Status::of(tables::word(names, NameRecord::WORDS, name.0, NameRecord::NODE))
+}
+
+// Sets how far a name has come.
+fn set_status(names: &mut [u32], name: NameNo, status: Status)
+    ensures { names.new ≡ names_with names.old name.0 (node_word status) }
 {
     let marked = NameRecord {
         span: symbols::name_span(names, name),
         expr: ExprNo(tables::word(names, NameRecord::WORDS, name.0, NameRecord::EXPR)),
-        node,
+        node: NodeNo(status.word()),
     };
     tables::write_record(names, name.0, marked);
 }
 
 // The node that a reference gets as its child, by its name's status; 0 if the name is not finished.
-fn finished_node(status: u32) -> u32
-    ensures { result ≡ finished_node status }
+fn finished_node(status: Status) -> NodeNo
+    ensures { result.0 ≡ finished_node status }
 {
-    if status == Status::BEGUN { 0 } else { status }
+    match status {
+        Status::Finished(node) => node,
+        _ => NodeNo(0),
+    }
 }
 
-// A reference with no child is missing.
-fn reference_kind(node: u32) -> NodeKind
-    ensures { result.0 ≡ reference_kind node }
+// The kind of a reference's node, by its name's status: it is missing if the name is not finished.
+fn reference_kind(status: Status) -> NodeKind
+    ensures { result.0 ≡ reference_kind status }
 {
-    if node == 0 {
-        NodeKind::MISSING
-    } else {
-        NodeKind::REFERENCE
+    match status {
+        Status::Finished(_) => NodeKind::REFERENCE,
+        _ => NodeKind::MISSING,
     }
 }
 
 // Whether a name has a legal line and is not yet begun.
-fn is_fresh(name: u32, status: u32) -> bool
-    ensures { result ≡ fresh_name name status }
+fn is_fresh(name: NameNo, status: Status) -> bool
+    ensures { result ≡ fresh_name name.0 status }
 {
-    (name != 0) & (status == Status::FRESH)
+    match status {
+        Status::Fresh => name.0 != 0,
+        _ => false,
+    }
 }
 
 // Begins a name, and gives its first expression.
@@ -242,7 +276,7 @@ fn begin_name(names: &mut [u32], name: NameNo) -> ExprNo
     ensures first { result.0 ≡ word_at name_width (names_with names.old name.0 begun_word) name.0 2 }
     ensures table { names.new ≡ names_with names.old name.0 begun_word }
 {
-    set_node(names, name, NodeNo(Status::BEGUN));
+    set_status(names, name, Status::Begun);
     ExprNo(tables::word(names, NameRecord::WORDS, name.0, NameRecord::EXPR))
 }
 
@@ -269,6 +303,7 @@ fn coming_up(node: NodeNo, waiting: u32, made: u32) -> Walker
 }
 
 // A turn at a reference: begins its name if that is fresh, else makes the reference's node.
+#[tactic(auto, using(crate::proofs::Turning::refer_begin, crate::proofs::Turning::refer_node))]
 fn refer(
     program: Program,
     names: &mut [u32],
@@ -288,24 +323,16 @@ fn refer(
         right: NodeNo(0),
     };
     let used = used_name(program, names, expr);
-    let status = tables::word(names, NameRecord::WORDS, used.0, NameRecord::NODE);
-    if is_fresh(used.0, status) {
+    let status = status_at(names, used);
+    if is_fresh(used, status) {
         let number = cursor::next_number(g.waiting);
         tables::write_record(work, number, item);
         let first = begin_name(names, used);
         return going_down(first, used, number, g.made);
     }
     let left = finished_node(status);
-    let kind = reference_kind(left);
-    make_node(
-        program.exprs,
-        names,
-        nodes,
-        g.made,
-        kind,
-        item,
-        NodeNo(left),
-    );
+    let kind = reference_kind(status);
+    make_node(program.exprs, names, nodes, g.made, kind, item, left);
     let number = cursor::next_number(g.made);
     coming_up(NodeNo(number), g.waiting, number)
 }
@@ -356,7 +383,7 @@ fn come_up(
         }
         Waits::ForName => {
             let used = used_name(program, names, item.expr);
-            set_node(names, used, node);
+            set_status(names, used, Status::Finished(node));
             let kind = NodeKind::REFERENCE;
             make_node(program.exprs, names, nodes, g.made, kind, item, node);
             one_done(g)
@@ -454,6 +481,7 @@ fn last_node(g: Walker) -> NodeNo
 }
 
 // Finishes a name if it is fresh. Returns how many nodes are made then.
+#[tactic(auto, using(crate::proofs::Running::visit_no, crate::proofs::Running::visit_yes))]
 fn visit(
     program: Program,
     names: &mut [u32],
@@ -464,12 +492,13 @@ fn visit(
 ) -> u32
     ensures { Visits program.entry.source.now program.entry.exprs.now program.entry.count n made names.old nodes.old work.old result names.new nodes.new work.new }
 {
-    let status = tables::word(names, NameRecord::WORDS, n, NameRecord::NODE);
-    if is_fresh(n, status) {
-        let first = begin_name(names, NameNo(n));
-        let g = going_down(first, NameNo(n), 0, made);
+    let name = NameNo(n);
+    let status = status_at(names, name);
+    if is_fresh(name, status) {
+        let first = begin_name(names, name);
+        let g = going_down(first, name, 0, made);
         let h = run(program, names, nodes, work, g);
-        set_node(names, NameNo(n), last_node(h));
+        set_status(names, name, Status::Finished(last_node(h)));
         return h.made;
     }
     made
