@@ -24,14 +24,21 @@ pub enum Waits {
 }
 
 impl Waits {
-    // The word that says it in the work table.
+    // The words that say it in the work table.
+    const RIGHT: u32 = 1;
+
+    const LEFT: u32 = 2;
+
+    const NAME: u32 = 3;
+
+    // The word that says it.
     fn word(self) -> u32
         ensures { result ≡ waits_word self }
     {
         match self {
-            Waits::ForRight => 1,
-            Waits::ForLeft => 2,
-            Waits::ForName => 3,
+            Waits::ForRight => Waits::RIGHT,
+            Waits::ForLeft => Waits::LEFT,
+            Waits::ForName => Waits::NAME,
         }
     }
 
@@ -40,8 +47,8 @@ impl Waits {
         ensures { result ≡ waits_of word }
     {
         match word {
-            1 => Waits::ForRight,
-            2 => Waits::ForLeft,
+            Waits::RIGHT => Waits::ForRight,
+            Waits::LEFT => Waits::ForLeft,
             _ => Waits::ForName,
         }
     }
@@ -86,13 +93,18 @@ pub enum Status {
 }
 
 impl Status {
+    // The words of what has no node yet.
+    const FRESH: u32 = 0;
+
+    const BEGUN: u32 = u32::MAX;
+
     // The word that says it.
     fn word(self) -> u32
         ensures { result ≡ node_word self }
     {
         match self {
-            Status::Fresh => 0,
-            Status::Begun => u32::MAX,
+            Status::Fresh => Status::FRESH,
+            Status::Begun => Status::BEGUN,
             Status::Finished(node) => node.0,
         }
     }
@@ -102,8 +114,8 @@ impl Status {
         ensures { result ≡ status_of word }
     {
         match word {
-            0 => Status::Fresh,
-            u32::MAX => Status::Begun,
+            Status::FRESH => Status::Fresh,
+            Status::BEGUN => Status::Begun,
             _ => Status::Finished(NodeNo(word)),
         }
     }
