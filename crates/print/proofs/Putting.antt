@@ -40,11 +40,11 @@ first_fits limit at a b h = omega (arith, simp length-append at h)
 pub adds_nothing : (output : Output) → Adds [] output output
 adds_nothing output = record { puts = record { written = refl; behind = omega arith }; same = refl }
 
--- ---- from the front on
+-- ---- from where an output began
 
--- what was put since an output began stands at the front of what was lent
-pub whole_puts : {lent : MutBor (List ℕ)} {text out' : List ℕ} {first last : Output} {r : ℕ} → Begins lent first → Adds text first last → out' ≡ last.out.now → r ≡ last.at → Puts text lent.now 0 out' r
-whole_puts b p e f = rw (b.whole, b.front, ← e, ← f) at p.puts
+-- what was put since then stands there in what was lent
+pub whole_puts : {at : ℕ} {lent : MutBor (List ℕ)} {text out' : List ℕ} {first last : Output} {r : ℕ} → Begins at lent first → Adds text first last → out' ≡ last.out.now → r ≡ last.at → Puts text lent.now at out' r
+whole_puts b p e f = rw (b.whole, b.place, ← e, ← f) at p.puts
 
 -- where there is room: the text, and then what there was
 pub sets_front : (text out : List ℕ) → length text ≤ length out → sets out 0 text ≡ text ++ drop (length text) out

@@ -38,10 +38,10 @@ pub record Puts (text out : List ℕ) (at : ℕ) (out' : List ℕ) (r : ℕ) : T
   pub written : out' ≡ sets out at text
   pub behind : r ≡ at + length text
 
--- An output begins at the front of what is lent, by that same reference.
-pub record Begins (lent : MutBor (List ℕ)) (output : Output) : Type 0 where
+-- An output begins at a place of what is lent, by that same reference.
+pub record Begins (at : ℕ) (lent : MutBor (List ℕ)) (output : Output) : Type 0 where
   pub whole : output.out.now ≡ lent.now
-  pub front : output.at ≡ 0
+  pub place : output.at ≡ at
   pub same : output.out.ghost_name ≡ lent.ghost_name
 
 -- The text was put into the output, and its reference is still the same.

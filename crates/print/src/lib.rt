@@ -32,12 +32,19 @@ fn digit(number: usize) -> u8
 impl<'a> Output<'a> {
     // Begins at the front of what is lent.
     pub fn new(out: &'a mut [u8]) -> Output<'a>
-        ensures { Begins out.entry result }
+        ensures { Begins 0 out.entry result }
     {
         Output { out, at: 0 }
     }
 
-    // The place where the next text goes: how long the text is that was put.
+    // Begins at a place of what is lent; the bytes before it stay.
+    pub fn new_at(out: &'a mut [u8], at: usize) -> Output<'a>
+        ensures { Begins at out.entry result }
+    {
+        Output { out, at }
+    }
+
+    // The place where the next text goes: from the front on, how long the text is that was put.
     pub fn place(&self) -> usize
         ensures { result ≡ self.now.at }
     {

@@ -40,5 +40,5 @@ module _ {a b : List ℕ} (e : a ≡ b) where
   same_fits h = rw e at h
 
 -- a whole listing has room from the front of what is lent
-pub whole_fits : {lent : MutBor (List ℕ)} {first : Output} → Begins lent first → (text : List ℕ) → length text ≤ listing_limit → Room first text
-whole_fits b text h = record { fits = omega (arith, b.front) }
+pub whole_fits : {lent : MutBor (List ℕ)} {first : Output} → Begins 0 lent first → (text : List ℕ) → length text ≤ listing_limit → Room first text
+whole_fits b text h = record { fits = omega (arith, b.place) }
