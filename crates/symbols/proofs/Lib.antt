@@ -1,2 +1,4 @@
 pub mod Texts
 pub mod Examples
+pub mod Same
+pub mod Records

@@ -1,10 +1,11 @@
 -- Texts that are compared and looked for, as the code does it. Assumes nothing.
 use Rattle.std.specs.Prelude.{if◌then◌else◌}
 use Prim.Native.Nat.{ℕ, suc, ◌+◌, ◌-◌, ◌≤◌, ◌<◌}
-use mathlib.Core.Bool.{Bool, true, false}
-use mathlib.Core.Path.{◌≡◌, refl, sym, ◌∙◌}
+use mathlib.Core.Bool.{Bool, true, false, ◌&&◌}
+use mathlib.Core.Path.{◌≡◌, refl, sym, ap, ◌∙◌}
 use mathlib.Core.List.{List, [], ◌∷◌}
 use native.Mathlib.Omega.{arith}
+use lib.ListN.{length}
 use lib.Dec.{eqb}
 use lib.Pointwise.{pointwise}
 use native.Mathlib.Numerals.{add-one}
@@ -22,6 +23,25 @@ same_pointwise [] [] = refl
 same_pointwise [] (y ∷ b) = refl
 same_pointwise (x ∷ a) [] = refl
 same_pointwise (x ∷ a) (y ∷ b) = rw (same_pointwise a b)
+
+-- texts of one length are the same where one stands at the front of the other, and texts of two lengths never
+pub same_starts : (a b : Text) → length a ≡ length b → starts (word b) a ≡ same a b
+unfolding same starts
+same_starts [] [] h = refl
+same_starts [] (y ∷ b) h = absurd (omega arith)
+same_starts (x ∷ a) [] h = absurd (omega arith)
+same_starts (x ∷ a) (y ∷ b) h = rw (same_starts a b (omega arith))
+
+pub same_apart : (a b : Text) → (length a ≡ length b → ⊥) → false ≡ same a b
+unfolding same
+same_apart [] [] h = absurd (h refl)
+same_apart [] (y ∷ b) h = refl
+same_apart (x ∷ a) [] h = refl
+same_apart (x ∷ a) (y ∷ b) h = go (eqb x y) (same_apart a b (λ e. h (ap suc e)))
+  where
+    go : (p : Bool) → false ≡ same a b → false ≡ p && same a b
+    go true e = e
+    go false e = refl
 
 -- ---- illegal names
 
@@ -45,11 +65,11 @@ module _ (s t : List ℕ) (n : ℕ) (x : Text) where
       let z : suc n - i ≡ suc (suc n - (i + 1)) = omega arith in
       rw (z, add-one i)
 
-  pub found_here : (i : ℕ) (y : Text) (b : Bool) → i ≤ n → y ≡ name_text s t i → b ≡ pointwise eqb y x → b ≡ true → i ≡ found_from i
-  found_here i y b h ey eb e = sym (one i h ∙ rw (← ey, same_pointwise y x, ← eb, e))
+  pub found_here : (i : ℕ) (y : Text) (b : Bool) → i ≤ n → y ≡ name_text s t i → b ≡ same y x → b ≡ true → i ≡ found_from i
+  found_here i y b h ey eb e = sym (one i h ∙ rw (← ey, ← eb, e))
 
-  pub found_later : (i : ℕ) (y : Text) (b : Bool) → i ≤ n → y ≡ name_text s t i → b ≡ pointwise eqb y x → b ≡ false → found_from i ≡ found_from (i + 1)
-  found_later i y b h ey eb e = one i h ∙ rw (← ey, same_pointwise y x, ← eb, e)
+  pub found_later : (i : ℕ) (y : Text) (b : Bool) → i ≤ n → y ≡ name_text s t i → b ≡ same y x → b ≡ false → found_from i ≡ found_from (i + 1)
+  found_later i y b h ey eb e = one i h ∙ rw (← ey, ← eb, e)
 
   pub found_none : (i : ℕ) → n < i → 0 ≡ found_from i
   unfolding find_from texts_from
