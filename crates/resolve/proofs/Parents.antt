@@ -1,13 +1,15 @@
 -- The in-degrees, counted in a pass of their own. Assumes nothing.
-use Prim.Native.Nat.{ℕ, zero, suc, ◌+◌, ◌-◌, ◌*◌, ◌≤◌, ◌<◌}
+use Prim.Native.Nat.{ℕ, zero, suc, min, ◌+◌, ◌-◌, ◌*◌, ◌^◌, ◌≤◌, ◌<◌}
 use mathlib.Core.Bool.{Bool, true, false}
 use mathlib.Core.Path.{◌≡◌, refl, sym, ap, ap₂, ◌∙◌}
 use mathlib.Core.Logic.{◌⊎◌, inl, inr, ◌≢◌}
 use mathlib.Core.List.{List, [], ◌∷◌, ◌++◌, map}
+use native.Mathlib.Numerals.{add-one}
 use native.Mathlib.Omega.{arith}
 use lib.ListN.{length, get_or, set, take}
 use lib.Dec.{eqb, leb}
-use borrow.Author.Tests.{eq-eqb, ne_eqb, le-leb, leb-false}
+use borrow.Author.Tests.{eqb-true, eqb-false, eq-eqb, ne_eqb, le-leb, leb-false}
+use Rattle.std.specs.Prelude.{if◌then◌else◌}
 use Rattle.records.specs.Base.{within}
 use Rattle.records.specs.Limits.{record_limit, node_width}
 use Rattle.records.specs.Records.{no_span, node_words}
@@ -20,6 +22,14 @@ use Rattle.walk.specs.Walk.{Node}
 use Rattle.walk.specs.Nodes.{in_degree, one_if, node_record, node_records_from, node_records}
 use Rattle.walk.proofs.Basics.{same?}
 use Rattle.resolve.specs.Words.{node_at, with_parent, bumped, one_more, begun_word, Counts}
+
+-- one more, as the library's addition of words does it
+pub more_word : (d : ℕ) → d < 2 ^ 32 → min (d + 1) (2 ^ 32 - 1) ≡ one_more d
+more_word d h = go (eqb d begun_word) refl
+  where
+    go : (b : Bool) → eqb d begun_word ≡ b → min (d + 1) (2 ^ 32 - 1) ≡ (if b then d else suc d)
+    go true e = let z : d ≡ begun_word = eqb-true d begun_word e in omega arith
+    go false e = let z : d ≢ begun_word = eqb-false d begun_word e in omega arith
 
 -- what stands for a node past the last
 abbrev pub no_node : Node
@@ -94,8 +104,7 @@ module _ (xs : List Node) (few : length xs ≤ record_limit) (d : ℕ → ℕ) (
   unfolding bumped more_for
   bumped_in i a b small =
       let e : i ≡ i - 1 + 1 = omega arith in
-      let m : one_more (d i) ≡ d i + 1 = omega arith in
-      let f : one_more (d i) ≡ d i + one_if (eqb i i) = rw (m, eq-eqb i i refl) in
+      let f : one_more (d i) ≡ d i + one_if (eqb i i) = rw (ne_eqb (d i) begun_word (λ q. omega arith), eq-eqb i i refl) (sym (add-one (d i))) in
       rw (le-leb 1 i a, le-leb i (length xs) b)
       (ap (λ (x : NodeRecord). written node_width (table_of node_width (rows_with d 1 xs) old) i (node_words (with_parent x))) (node_is i a b)
       ∙ ap₂ (λ (n k : ℕ). written node_width (table_of node_width (rows_with d 1 xs) old) n (node_words (node_record (get_or xs (i - 1) no_node) k))) e f

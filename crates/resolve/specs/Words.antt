@@ -1,5 +1,5 @@
 -- What single functions of the walk read and make, for any words.
-use Rattle.std.specs.Prelude.{ℕ, ◌+◌, ◌-◌, min, ◌≤◌, Bool, false, not, ◌≡◌, List, [], ◌∷◌, map, length, eqb, if◌then◌else◌}
+use Rattle.std.specs.Prelude.{ℕ, suc, ◌+◌, ◌-◌, ◌≤◌, Bool, false, not, ◌≡◌, List, [], ◌∷◌, map, length, eqb, if◌then◌else◌}
 use Rattle.records.specs.Base.{within}
 use Rattle.records.specs.Limits.{record_limit, expr_width, name_width, node_width, work_width}
 use Rattle.records.specs.NodeKind as node
@@ -161,7 +161,7 @@ names_with nm n v =
 
 -- one more, as far as a word goes
 abbrev pub one_more : ℕ → ℕ
-one_more d = min (d + 1) 4294967295
+one_more d = if eqb d begun_word then d else suc d
 
 -- the record of a node, by its words
 abbrev pub node_at : (nodes : List ℕ) → (n : ℕ) → NodeRecord

@@ -25,11 +25,11 @@ pub enum Waits {
 
 impl Waits {
     // The words that say it in the work table.
-    const RIGHT: u32 = 1;
+    pub const RIGHT: u32 = 1;
 
-    const LEFT: u32 = 2;
+    pub const LEFT: u32 = 2;
 
-    const NAME: u32 = 3;
+    pub const NAME: u32 = 3;
 
     // The word that says it.
     fn word(self) -> u32
@@ -94,9 +94,9 @@ pub enum Status {
 
 impl Status {
     // The words of what has no node yet.
-    const FRESH: u32 = 0;
+    pub const FRESH: u32 = 0;
 
-    const BEGUN: u32 = u32::MAX;
+    pub const BEGUN: u32 = u32::MAX;
 
     // The word that says it.
     fn word(self) -> u32
@@ -543,6 +543,7 @@ fn node_at(nodes: &[u32], n: u32) -> NodeRecord
 }
 
 // The record with one parent more, as far as a word goes.
+#[tactic(auto, using(crate::proofs::Parents::more_word))]
 fn with_parent(node: NodeRecord) -> NodeRecord
     ensures { result ≡ with_parent node }
 {
