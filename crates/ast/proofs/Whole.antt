@@ -1,7 +1,7 @@
 -- The answer for any source, any jet list and any tables, by the tests that came before it. Assumes nothing.
 use Prim.Native.Nat.{ℕ, ◌*◌, ◌≤◌}
 use mathlib.Core.Bool.{Bool, true, false, ◌||◌}
-use mathlib.Core.Path.{◌≡◌, refl, sym, ap, ◌∙◌}
+use mathlib.Core.Path.{◌≡◌, refl, sym, ap, subst, ◌∙◌}
 use mathlib.Core.List.{List, []}
 use native.Mathlib.Omega.{arith}
 use lib.Dec.{ltb}
@@ -24,7 +24,7 @@ use Rattle.grammar.specs.Recorded.{line_records, lines_exprs, lines_types, line_
 use Rattle.cursor.specs.declared.ParseRefusal.{ParseRefusal}
 use Rattle.ends.specs.declared.Counts.{Counts}
 use Rattle.records.proofs.Pairs.{ok_err}
-use Rattle.lex.proofs.Answers.{lexing_met}
+use Rattle.lex.proofs.Answers.{Met, lexing_met}
 use Rattle.ast.specs.Parsing.{parsed_of, ParserTables, tables, short_to_parse_by, tokens_kept, tokens_in, lines_in, end_by, parsing, holding_lines, parsed_by, left_by, parse_all, tables_after}
 use Rattle.std.specs.Prelude.{Err, Ok, Result}
 use Rattle.text.specs.declared.TextError.{TextError}
@@ -70,6 +70,19 @@ module _ (source table : List ℕ) (room : record_limit * token_width ≤ length
       go true h a k = absurd (ok_err (sym (rw (le-ltb (length table) (record_limit * token_width) room, h) at e)))
       go false h (Ok _) k = (rw (le-ltb (length table) (record_limit * token_width) room, h, k) at e, ltb-false source_limit (length source) h)
       go false h (Err x) k = absurd (ok_err (sym (rw (le-ltb (length table) (record_limit * token_width) room, h, k) at e)))
+
+  -- and so do refusals 4 and 5
+  pub lex_met : (x : LexError) → Met x → lex_all source table ≡ Err x → ((lexing source).answer ≡ Err x) × (length source ≤ source_limit)
+  unfolding lex_all
+  lex_met x m e = go (ltb source_limit (length source)) refl (check_text source) refl
+    where
+      other : (y : LexError) → (Met y → ⊥) → ◌≡◌ {A = Result ℕ LexError} (Err y) (Err x) → ⊥
+      other y n f = let same : y ≡ x = cc in n (subst Met (sym same) m)
+
+      go : (b : Bool) → ltb source_limit (length source) ≡ b → (a : Result (Unit {0}) TextError) → check_text source ≡ a → ((lexing source).answer ≡ Err x) × (length source ≤ source_limit)
+      go true h a k = absurd (other LongSource (λ z. z) (rw (le-ltb (length table) (record_limit * token_width) room, h) at e))
+      go false h (Ok _) k = (rw (le-ltb (length table) (record_limit * token_width) room, h, k) at e, ltb-false source_limit (length source) h)
+      go false h (Err y) k = absurd (other (NotUtf8 (record { 0 = y.at })) (λ z. z) (rw (le-ltb (length table) (record_limit * token_width) room, h, k) at e))
 
 -- ---- the whole
 

@@ -67,6 +67,25 @@ module _ (source tokens : List ℕ) where
   unfolding tokens_left tokens_from
   left_next n p h = let z : n - p ≡ suc (n - suc p) = omega arith in rw (z, add-one p)
 
+  from_rest : (k p : ℕ) (used rest : List Token) → tokens_from source tokens k p ≡ used ++ rest → rest ≡ tokens_from source tokens (k - length used) (p + length used)
+  unfolding tokens_from
+  from_rest k p [] rest e = let z : p + 0 ≡ p = omega arith in let y : k - 0 ≡ k = omega arith in rw (z, y) (sym e)
+  from_rest zero p (t ∷ used) rest e = let y : ◌≡◌ {A = ℕ} 0 1 = cc in absurd (omega arith)
+  from_rest (suc k) p (t ∷ used) rest e =
+      let f : tokens_from source tokens k (suc p) ≡ used ++ rest = cc in
+      let z : suc p + length used ≡ p + suc (length used) = omega arith in
+      let y : k - length used ≡ suc k - suc (length used) = omega arith in
+      from_rest k (suc p) used rest f ∙ rw (z, y)
+
+  -- what is left behind some of the tokens that are left
+  pub left_rest : (n p : ℕ) (used rest : List Token) → p ≤ n → tokens_left source tokens n p ≡ used ++ rest → (rest ≡ tokens_left source tokens n (n - length rest)) × (n - length rest ≡ p + length used) × (length rest ≤ n)
+  unfolding tokens_left
+  left_rest n p used rest h e =
+      let l : n - p ≡ length used + length rest = sym (from_length (n - p) p) ∙ ap length e ∙ length-append used rest in
+      let q : p + length used ≡ n - length rest = omega arith in
+      let k : n - p - length used ≡ n - (n - length rest) = omega arith in
+      (from_rest (n - p) p used rest e ∙ rw (q, k), sym q, omega arith)
+
 -- ---- the table of tokens that lie in the source
 
 -- the row of the token that stands behind some others
