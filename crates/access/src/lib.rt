@@ -67,14 +67,15 @@ pub fn is_root(names: &[u32], named: u32, nodes: &[u32], made: u32, number: Name
     ((1 <= number.0) & (number.0 <= named)) & (inside & (parents == 0))
 }
 
-// The first root behind the name `after`, 0 to begin; 0 if there is none.
+// The first root behind the name `after`, 0 to begin; 0 if there is none. Behind the last of so many names is none.
 #[tactic(auto, using(crate::proofs::Roots::first_step, crate::proofs::Roots::first_none, crate::proofs::Roots::next_from))]
 pub fn next_root(names: &[u32], named: u32, nodes: &[u32], made: u32, after: NameNo) -> NameNo
     ensures { result.0 ≡ next_root names.now named nodes.now made after.0 }
 {
-    for number in after.0.saturating_add(1)..=Limits::RECORDS {
-        if is_root(names, named, nodes, made, NameNo(number)) {
-            return NameNo(number);
+    for passed in after.0..named.min(Limits::RECORDS) {
+        let number = NameNo(passed + 1);
+        if is_root(names, named, nodes, made, number) {
+            return number;
         }
     }
     NameNo(0)
