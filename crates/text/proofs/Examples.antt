@@ -3,7 +3,7 @@ use Prim.Native.Nat.{ℕ}
 use mathlib.Core.Path.{◌≡◌, refl}
 use mathlib.Core.List.{List, [], ◌∷◌, map}
 use Rattle.text.specs.Check.{bad_at, char_len, check_from, check_text}
-use Rattle.std.specs.Prelude.{Err, Ok, Result}
+use Rattle.std.specs.Prelude.{Ok, Result}
 use Rattle.text.specs.declared.TextError.{TextError}
 
 pub record Example : Type 0 where

@@ -1,22 +1,22 @@
 -- What the functions on text need of the definitions. Assumes nothing.
-use Rattle.std.specs.Prelude.{if◌then◌else◌, Err, Ok, Result}
-use Prim.Native.Nat.{ℕ, zero, suc, pred, min, ◌+◌, ◌-◌, ◌≤◌, ◌<◌}
-use mathlib.Core.Bool.{Bool, true, false, and-true, or-false}
+use Rattle.std.specs.Prelude.{if◌then◌else◌, Ok, Result}
+use Prim.Native.Nat.{ℕ, zero, suc, pred, ◌+◌, ◌-◌, ◌≤◌, ◌<◌}
+use mathlib.Core.Bool.{Bool, true, false, ◌&&◌, and-true, or-false}
 use mathlib.Core.Path.{◌≡◌, refl, sym, ap, ◌∙◌}
-use mathlib.Core.List.{List, [], ◌∷◌, foldl}
+use mathlib.Core.List.{List, [], ◌∷◌, ◌++◌}
 use native.Mathlib.Omega.{arith}
 use native.Mathlib.Numerals.{add-one}
 use native.Mathlib.Nat.{add-zero}
-use lib.Dec.{eqb, leb}
-use lib.ListN.{length, get_or, take, drop, length-drop, drop_of_length-le}
+use lib.Dec.{eqb}
+use lib.ListN.{length, get_or, take, drop, length-drop, length-append, drop_of_length-le}
 use lib.Seq.{take_all, drop-cons, drop-drop}
-use borrow.Author.Tests.{ne_eqb, leb-true, leb-false}
-use Rattle.records.proofs.Choices.{if_or}
-use Rattle.text.specs.declared.Position.{Position}
+use borrow.Author.Tests.{ne_eqb}
+use Rattle.records.proofs.Choices.{if_or, and_left, and_right}
+use Rattle.records.specs.Base.{within}
+use Rattle.std.specs.List.{list_all}
 use Rattle.text.specs.Utf8.{utf8_1, utf8_2, utf8_3, utf8_4}
-use Rattle.text.specs.Check.{bad_at, begins_by, char_len, check_from}
+use Rattle.text.specs.Check.{bad_at, begins_by, char_len, check_from, check_text}
 use Rattle.text.proofs.Chars.{char_inside}
-use Rattle.text.specs.Place.{begins_char, pass, position_of}
 use Rattle.text.specs.declared.TextError.{TextError}
 
 -- ---- a character's length, by four tests, past the end of the text a 0 serving as well
@@ -87,38 +87,43 @@ pub check_end : (s : List ℕ) (i : ℕ) → length s ≤ i → check_from i 0 (
 unfolding check_from
 check_end s i h = rw (drop_of_length-le s h)
 
--- ---- places
+-- ---- ASCII at the front
 
--- line and column are at most one more than the bytes before the place
-abbrev pub Near : Position → ℕ → Type 0
-Near p i = (p.line ≤ i + 1) × (p.column ≤ i + 1)
+-- a byte is a character
+abbrev pub single : ℕ → Bool
+single b = begins_by utf8_1 (b ∷ [])
 
-pub pass_near : (p q : Position) (b i : ℕ) → q ≡ pass p b → Near p i → Near q (i + 1)
-unfolding pass
-pass_near p q b i e (l, k) = rw e (go (eqb b 10) (begins_char b))
+drop-length : (s t : List ℕ) → drop (length s) (s ++ t) ≡ t
+drop-length [] t = refl
+drop-length (a ∷ s) t = drop-length s t
+
+-- such bytes are passed,
+ascii_passed : (at : ℕ) (block rest : List ℕ) → list_all single block ≡ true → check_from at 0 (block ++ rest) ≡ check_from (at + length block) 0 rest
+unfolding check_from char_len
+ascii_passed at [] rest h = rw add-zero
+ascii_passed at (b ∷ block) rest h =
+    let one : single b ≡ true = and_left (single b) _ h in
+    let w : within 0 127 b ≡ true = simp (and-true, or-false) at one in
+    rw w (ascii_passed (suc at) block rest (and_right (single b) _ h) ∙ ap (λ (n : ℕ). check_from n 0 rest) (omega arith))
+
+-- byte by byte,
+pub ascii_byte : (s : List ℕ) (i : ℕ) (x : Bool) {y : Bool} → i < length s → y ≡ single (get_or s i 0) → list_all single s ≡ (x && list_all single (drop i s)) → list_all single s ≡ ((x && y) && list_all single (drop (i + 1) s))
+ascii_byte s i x {y} h e f = f ∙ rw (drop-cons s i 0 h, ← e, add-one i) (go x)
   where
-    go : (x y : Bool) → Near (if x then record { line = p.line + 1; column = 1 } else if y then record { line = p.line; column = p.column + 1 } else p) (i + 1)
-    go true y = (omega arith, omega arith)
-    go false true = (omega arith, omega arith)
-    go false false = (omega arith, omega arith)
+    go : (b : Bool) → (b && (y && list_all single (drop (suc i) s))) ≡ ((b && y) && list_all single (drop (suc i) s))
+    go true = refl
+    go false = refl
 
--- a place is that behind the bytes before the offset, which end with the text where it is shorter
-pub place_start : (s : List ℕ) (offset k : ℕ) → k ≡ min offset (length s) → position_of s offset ≡ foldl pass (record { line = 1; column = 1 }) (take k s)
-unfolding position_of
-place_start s offset k e = ap (foldl pass (record { line = 1; column = 1 })) (go (leb offset (length s)) refl)
+pub ascii_whole : (s : List ℕ) (i : ℕ) {x : Bool} → length s ≤ i → list_all single s ≡ (x && list_all single (drop i s)) → x ≡ list_all single s
+ascii_whole s i {x} h f = sym (f ∙ rw (drop_of_length-le s h) (and-true x))
+
+-- what is passed of a text, and what is left
+abbrev pub Passed : (s rest : List ℕ) (i : ℕ) → Type 0
+Passed s rest i = (i + length rest ≡ length s) × (rest ≡ drop i s) × (check_text s ≡ check_from i 0 rest)
+
+-- and block by block
+pub ascii_block : (s block left : List ℕ) (i : ℕ) {rest : List ℕ} {y : Bool} → rest ≡ block ++ left → y ≡ list_all single block → y ≡ true → Passed s rest i → Passed s left (i + length block)
+ascii_block s block left i {rest} e f h (n, d, p) = (omega (arith, ap length e ∙ length-append block left), behind, p ∙ rw e (ascii_passed i block left (sym f ∙ h)))
   where
-    go : (b : Bool) → leb offset (length s) ≡ b → take offset s ≡ take k s
-    go true h = let l : offset ≤ length s = leb-true _ _ h in let z : k ≡ offset = omega arith in rw z
-    go false h =
-        let l : length s < offset = leb-false _ _ h in
-        let m : length s ≤ offset = omega arith in
-        let n : length s ≤ k = omega arith in
-        take_all offset s m ∙ sym (take_all k s n)
-
--- one byte more, and none
-module _ (bs : List ℕ) (i : ℕ) (p : Position) where
-  pub place_more : (q : Position) → q ≡ pass p (get_or bs i 0) → i < length bs → foldl pass p (drop i bs) ≡ foldl pass q (drop (i + 1) bs)
-  place_more q e h = rw (e, add-one i, drop-cons bs i 0)
-
-  pub place_done : length bs ≤ i → p ≡ foldl pass p (drop i bs)
-  place_done h = rw drop_of_length-le
+    behind : left ≡ drop (i + length block) s
+    behind = sym (drop-length block left) ∙ ap (drop (length block)) (sym e ∙ d) ∙ drop-drop (length block) i s

@@ -2,10 +2,11 @@
 // length, so a place is no `ByteOffset`.
 #![tactic(auto)]
 
-ghost use Rattle.std.specs.Prelude.{◌≡◌, [], ◌∷◌, ◌+◌, ◌≤◌, ◌<◌, ◌^◌, length, get_or};
-ghost use Rattle.text.specs.Check.{begins_by, char_len, check_text, row_of_text_error};
+ghost use Rattle.std.specs.Prelude.{◌≡◌, [], ◌∷◌, ◌+◌, ◌≤◌, ◌<◌, ◌^◌, length, get_or, drop};
+ghost use Rattle.std.specs.List.{list_all};
+ghost use Rattle.text.specs.Check.{begins_by, char_len, check_from, check_text, row_of_text_error};
 ghost use Rattle.text.specs.Utf8.{utf8_1, utf8_2, utf8_3, utf8_4};
-ghost use Rattle.text.specs.Place.{begins_char, pass, position_of};
+ghost use Rattle.text.specs.Place.{begins_char, position_of};
 
 use records::refusals::{Cause, Refusal};
 
@@ -99,12 +100,41 @@ fn char_len(s: &[u8]) -> usize
     0
 }
 
-// Whether the bytes are UTF-8, or where they first are not.
+// Bytes of a block. A loop that looks at all of them, with no early exit, takes many at a time; and the line feeds of so few fit a
+// byte, so that they are counted in bytes.
+const BLOCK: usize = 128;
+
+// Whether each byte is a character, by UTF8-1.
+fn is_ascii(block: &[u8]) -> bool
+    ensures { result ≡ list_all (λ b. begins_by utf8_1 (b ∷ [])) block.now }
+{
+    let mut all = true;
+    for byte in block {
+        all = all & is_one(*byte);
+    }
+    all
+}
+
+// Where the check may begin: behind the blocks at the front that are ASCII.
+fn ascii_front(source: &[u8]) -> usize
+    ensures { (result ≤ length source.now) × (check_text source.now ≡ check_from result 0 (drop result source.now)) }
+{
+    let mut passed: usize = 0;
+    for block in source.chunks(BLOCK) {
+        if !is_ascii(block) {
+            return passed;
+        }
+        passed += block.len();
+    }
+    passed
+}
+
+// Whether the bytes are UTF-8, or where they first are not. Most texts are ASCII, or begin so.
 pub fn check_text(source: &[u8]) -> Result<(), TextError>
     ensures { result ≡ check_text source.now }
 {
     // No `for` fits: a turn goes as far as its character.
-    let mut i: usize = 0;
+    let mut i = ascii_front(source);
     while i < source.len() {
         let n = char_len(&source[i..]);
         if n == 0 {
@@ -129,33 +159,50 @@ fn begins_char(b: u8) -> bool
     !((128 <= b) & (b <= 191))
 }
 
-// The place behind the byte b, from the place before it.
-fn pass_byte(p: Position, b: u8) -> Position
-    requires { (p.line < 2 ^ 63) × (p.column < 2 ^ 63) }
-    ensures { result ≡ pass p b }
+// The line feeds among a block's bytes.
+fn line_feeds(block: &[u8]) -> u8
+    requires { length block.now ≤ 128 }
+    ensures { result + 1 ≡ (position_of block.now (length block.now)).line }
 {
-    if b == b'\n' {
-        return Position {
-            line: p.line + 1,
-            column: 1,
-        };
+    let mut feeds: u8 = 0;
+    for byte in block {
+        feeds += u8::from(*byte == b'\n');
     }
-    if begins_char(b) {
-        return Position {
-            line: p.line,
-            column: p.column + 1,
-        };
+    feeds
+}
+
+// The line behind bytes.
+fn line_behind(bytes: &[u8]) -> usize
+    ensures { result ≡ (position_of bytes.now (length bytes.now)).line }
+{
+    let mut line: usize = 1;
+    for block in bytes.chunks(BLOCK) {
+        line += usize::from(line_feeds(block));
     }
-    p
+    line
+}
+
+// The column behind bytes. Going back from their end, it looks no further than the last line feed.
+fn column_behind(bytes: &[u8]) -> usize
+    ensures { result ≡ (position_of bytes.now (length bytes.now)).column }
+{
+    let mut column: usize = 1;
+    for byte in bytes.iter().rev() {
+        if *byte == b'\n' {
+            return column;
+        }
+        column += usize::from(begins_char(*byte));
+    }
+    column
 }
 
 // The line and column of an offset. An offset past the end counts as the end.
 pub fn offset_to_position(source: &[u8], offset: usize) -> Position
     ensures { result ≡ position_of source.now offset }
 {
-    let mut p = Position { line: 1, column: 1 };
-    for byte in &source[..offset.min(source.len())] {
-        p = pass_byte(p, *byte);
+    let before = &source[..offset.min(source.len())];
+    Position {
+        line: line_behind(before),
+        column: column_behind(before),
     }
-    p
 }
